@@ -1,0 +1,16 @@
+use Rattle.std.proofs.Common.{rules, ◌≡◌, ap, ◌∙◌, Some}
+use Rattle.hs_base.proofs.Searching.{stands_under}
+use Rattle.hs_base.proofs.shelf.copy_of.Goals as goal
+
+pub returns-then-len-limit-clause-too_large : goal.returns-then-len-limit-clause-too_large
+returns-then-len-limit-clause-too_large c =
+    λ _. (
+      c.index-held-at.result.bytes.items,
+      stands_under c.args.name.now c.args.held.now c.in-Some.at c.index-held-at.result c.in-Some.ensures.found c.index-held-at.is,
+      search rules,
+    )
+
+pub returns-in-Ok-clause-bytes : goal.returns-in-Ok-clause-bytes
+returns-in-Ok-clause-bytes c =
+    stands_under c.args.name.now c.args.held.now c.in-Some.at c.index-held-at.result c.in-Some.ensures.found c.index-held-at.is
+    ∙ ap Some (let p : c.index-held-at.result.bytes.items ≡ c.in-Ok.copy.items = search rules in p)

@@ -1,0 +1,94 @@
+-- The rules of HS-1: their numbers, their codes and their texts.
+use Rattle.std.specs.Prelude.{ℕ, List, codes}
+use Rattle.hs_base.specs.declared.rule.Rule.{Rule}
+use Rattle.hs_base.specs.declared.rule.Rule.TheVariants.{X1, X2, X3, X4, X5, X6, G1, G2, G3, G4, G5, G6, G7, G8, N1, N2, N3, N4, N5, N6, N7, N8, N9, N10, N11, N12, T1, T2, T3, T4, T5, T6, T7, T8, T9, T10, T11, T12, T13, T14, T15, T16, T17, T18, T19, T20, T21, T22, T23, T24, T25, T26, T27, T28, T29, T30, L1, L2, L3, L4, L5, L6, S1, S2, S3, S4, S5, S6, S7, S8, S9, M1, M2, M3, M4}
+
+-- what a rule is told by: its place among the rules, counted from 1, its code, and what it says
+abbrev pub row_of : Rule → ℕ × List ℕ × List ℕ
+row_of X1 = (1, codes "X1", codes "no token begins with this byte")
+row_of X2 = (2, codes "X2", codes "this block comment is not closed")
+row_of X3 = (3, codes "X3", codes "this number has no digit")
+row_of X4 = (4, codes "X4", codes "this number's ending is not a digit of its base or a suffix")
+row_of X5 = (5, codes "X5", codes "this number is above 2^128 - 1")
+row_of X6 = (6, codes "X6", codes "this number does not fit its suffix")
+row_of G1 = (7, codes "G1", codes "this token cannot stand here outside brackets")
+row_of G2 = (8, codes "G2", codes "the file ends too early")
+row_of G3 = (9, codes "G3", codes "this token cannot stand here in ( )")
+row_of G4 = (10, codes "G4", codes "this token cannot stand here in [ ]")
+row_of G5 = (11, codes "G5", codes "this token cannot stand here in { }")
+row_of G6 = (12, codes "G6", codes "this closing bracket cannot stand here")
+row_of G7 = (13, codes "G7", codes "this macro is not part of HS-1")
+row_of G8 = (14, codes "G8", codes "this word is not part of HS-1")
+row_of N1 = (15, codes "N1", codes "unknown type")
+row_of N2 = (16, codes "N2", codes "unknown function")
+row_of N3 = (17, codes "N3", codes "unknown name")
+row_of N4 = (18, codes "N4", codes "unknown constructor or type of a path")
+row_of N5 = (19, codes "N5", codes "an item has this name already, or it is a built-in name")
+row_of N6 = (20, codes "N6", codes "this parameter, pattern or constructor name occurs twice, or is a constant's name")
+row_of N7 = (21, codes "N7", codes "this item needs itself")
+row_of N8 = (22, codes "N8", codes "an array has 1 to 65,536 items, inner items counted")
+row_of N9 = (23, codes "N9", codes "a type that is copied has a part that is not")
+row_of N10 = (24, codes "N10", codes "only a local can be assigned or lent")
+row_of N11 = (25, codes "N11", codes "an array's items are of a copied type with a zero value")
+row_of N12 = (26, codes "N12", codes "this modulus is not read")
+row_of T1 = (27, codes "T1", codes "the value has another type than the place")
+row_of T2 = (28, codes "T2", codes "the operator is not defined for this type")
+row_of T3 = (29, codes "T3", codes "the number does not fit its type")
+row_of T4 = (30, codes "T4", codes "`as` goes from a public integer to a public integer")
+row_of T5 = (31, codes "T5", codes "an index is a usize")
+row_of T6 = (32, codes "T6", codes "only a sequence or an array is indexed")
+row_of T7 = (33, codes "T7", codes "the tuple has no such part")
+row_of T8 = (34, codes "T8", codes "wrong number of arguments")
+row_of T9 = (35, codes "T9", codes "wrong mode of argument")
+row_of T10 = (36, codes "T10", codes "this local cannot be lent here")
+row_of T11 = (37, codes "T11", codes "this local is not mut")
+row_of T12 = (38, codes "T12", codes "`*` belongs to a reference parameter read as a value")
+row_of T13 = (39, codes "T13", codes "a condition is a bool")
+row_of T14 = (40, codes "T14", codes "the branches have different types")
+row_of T15 = (41, codes "T15", codes "an if without else gives unit")
+row_of T16 = (42, codes "T16", codes "this type has no such constructor")
+row_of T17 = (43, codes "T17", codes "the match lacks a constructor")
+row_of T18 = (44, codes "T18", codes "this arm is never reached")
+row_of T19 = (45, codes "T19", codes "a loop's variable is not assigned")
+row_of T20 = (46, codes "T20", codes "a loop's bound is a usize")
+row_of T21 = (47, codes "T21", codes "this statement or loop body gives unit")
+row_of T22 = (48, codes "T22", codes "`?` needs a Result with the function's error type")
+row_of T23 = (49, codes "T23", codes "the returned value has another type than the function")
+row_of T24 = (50, codes "T24", codes "this type has no such operation")
+row_of T25 = (51, codes "T25", codes "nothing follows what always exits")
+row_of T26 = (52, codes "T26", codes "this type has no zero value")
+row_of T27 = (53, codes "T27", codes "values with secret parts are not compared")
+row_of T28 = (54, codes "T28", codes "a list stands in its array's constructor with its length")
+row_of T29 = (55, codes "T29", codes "a constant is made of literals, constants and constructors")
+row_of T30 = (56, codes "T30", codes "the pattern does not fit the type")
+row_of L1 = (57, codes "L1", codes "this local may hold no value")
+row_of L2 = (58, codes "L2", codes "the lent local may hold no value")
+row_of L3 = (59, codes "L3", codes "a loop's body takes this local's value and may not give it back")
+row_of L4 = (60, codes "L4", codes "a value that is not copied is taken out of an item or a part")
+row_of L5 = (61, codes "L5", codes "a part of a local without a value is assigned")
+row_of L6 = (62, codes "L6", codes "a value that is not copied is taken through a reference")
+row_of S1 = (63, codes "S1", codes "limit passed: file bytes")
+row_of S2 = (64, codes "S2", codes "limit passed: nesting")
+row_of S3 = (65, codes "S3", codes "limit passed: functions")
+row_of S4 = (66, codes "S4", codes "limit passed: parameters")
+row_of S5 = (67, codes "S5", codes "limit passed: locals")
+row_of S6 = (68, codes "S6", codes "limit passed: statements")
+row_of S7 = (69, codes "S7", codes "limit passed: exits")
+row_of S8 = (70, codes "S8", codes "limit passed: parts")
+row_of S9 = (71, codes "S9", codes "limit passed: name bytes")
+row_of M1 = (72, codes "M1", codes "not a module of the dialect")
+row_of M2 = (73, codes "M2", codes "a name is not defined before its use")
+row_of M3 = (74, codes "M3", codes "a name is defined twice")
+row_of M4 = (75, codes "M4", codes "wrong number of arguments, parts or arms")
+
+-- the place of a rule among the rules, counted from 1
+abbrev pub number_of : Rule → ℕ
+number_of rule = (row_of rule).0
+
+-- the bytes of a rule's code, a letter and a number
+abbrev pub code_of : Rule → List ℕ
+code_of rule = (row_of rule).1
+
+-- the bytes of what a rule says
+abbrev pub text_of : Rule → List ℕ
+text_of rule = (row_of rule).2

@@ -1,0 +1,14 @@
+//! What every part of the toolchain stands on: places in a text, the rules and their texts, names,
+//! and what a program asks of the outside, which is files to read and sinks to write to.
+#![tactic(auto)]
+
+pub mod disk;
+pub mod heap;
+pub mod memory;
+pub mod name;
+pub mod outside;
+pub mod place;
+pub mod put;
+pub mod rule;
+pub mod shelf;
+pub mod stream;

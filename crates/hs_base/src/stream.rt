@@ -1,0 +1,120 @@
+//! A sink over a writer of the system.
+
+ghost use Rattle.std.specs.Prelude.{◌≡◌, ◌≢◌, ℕ, ◌≤◌, List, [], length, take, IfOk, OnOk, OnErr, IfErr};
+ghost use Rattle.std.specs.Io.{WritesAtMost};
+ghost use Rattle.std.specs.Io.KnownBytes.{WriteAppends};
+ghost use Rattle.hs_base.specs.Causes.{HasCause, next_of};
+
+use crate::outside::{Failed, Sink};
+use std::io;
+use std::io::Write;
+
+// How often a write that was interrupted is made again in one put.
+const REPEATS: u32 = 1024;
+
+// One write, made again where it was interrupted.
+fn write_again<W: Write>(writer: &mut W, piece: &[u8]) -> io::Result<usize>
+    ensures bound { WritesAtMost result piece.now }
+    ensures bytes { WriteAppends (W.contents writer.old) (W.contents writer.new) result piece.now }
+{
+    for _ in 0..REPEATS {
+        match writer.write(piece) {
+            Ok(count) => return Ok(count),
+            Err(error) => {
+                if error.kind() != io::ErrorKind::Interrupted {
+                    return Err(error);
+                }
+            }
+        }
+    }
+    writer.write(piece)
+}
+
+/// Standard output or standard error, or another writer, whose failures are counted.
+///
+/// A write that was interrupted is made again at most 1,024 times in a put. A further interruption is a
+/// failure.
+#[derive(Drop)]
+pub struct StdSink<W> {
+    writer: W,
+    faults: u64,
+}
+
+impl<W: Write> StdSink<W> {
+    /// A sink over the writer. Takes no memory.
+    pub fn new(writer: W) -> StdSink<W>
+        ensures taken { ⟦<StdSink<W> as Sink>⟧.taken result ≡ W.contents writer }
+        ensures faults { ⟦<StdSink<W> as Sink>⟧.faults result ≡ 0 }
+    {
+        StdSink { writer, faults: 0 }
+    }
+}
+
+/// The bytes taken are those that the writer is known to hold, and of standard output and standard error
+/// none are known. Every length is accepted. Each failure raises the count of faults.
+impl<W: Write> Sink for StdSink<W> {
+    ghost taken = { λ sink. W.contents sink.writer };
+
+    ghost faults = { λ sink. sink.faults };
+
+    ghost accepts = { λ _ _. Unit {0} };
+
+    ghost accepts_smaller = { λ _ _ _ _ _. tt };
+
+    fn put(&mut self, piece: &[u8]) -> Result<usize, Failed>
+        ensures bound { WritesAtMost result piece.now }
+        ensures some { IfOk result (λ count. count ≡ 0 → piece.now ≡ []) }
+        ensures bytes { WriteAppends (W.contents self.old.writer) (W.contents self.new.writer) result piece.now }
+        ensures cause { HasCause self.old.faults self.new.faults result }
+        ensures room { IfOk result (λ count. (len : ℕ) → Unit {0} → Unit {0}) }
+        ensures room_kept { OnErr result ((len : ℕ) → Unit {0} → Unit {0}) }
+
+        // The count rises by one at each failure, and at nothing else.
+        ensures one_fault { OnErr result (self.new.faults ≡ next_of self.old.faults) }
+        ensures no_fault { OnOk result (self.new.faults ≡ self.old.faults) }
+    {
+        match write_again(&mut self.writer, piece) {
+            Ok(count) if count > 0 || piece.is_empty() => Ok(count),
+            _ => {
+                self.faults = self.faults.saturating_add(1);
+                Err(Failed)
+            }
+        }
+    }
+}
+
+#[cfg(test)]
+mod tests {
+    use super::*;
+    use std::test::Fail;
+
+    // Interrupted so many times, and then takes all.
+    #[derive(Drop)]
+    struct Interrupted {
+        left: u32,
+    }
+
+    impl Write for Interrupted {
+        fn write(&mut self, buf: &[u8]) -> io::Result<usize> {
+            if self.left > 0 {
+                self.left -= 1;
+                return Err(io::Error::from(io::ErrorKind::Interrupted));
+            }
+            Ok(buf.len())
+        }
+
+        fn flush(&mut self) -> io::Result<()> {
+            Ok(())
+        }
+    }
+
+    #[test]
+    fn repeats_so_often_and_no_more(rt: HostRuntime) -> Result<(), Fail> {
+        let mut sink = StdSink::new(Interrupted { left: 1024 });
+        assert_eq!(rt; sink.put(b"abc"), Ok(3));
+        let mut sink = StdSink::new(Interrupted { left: 1025 });
+        assert_eq!(rt; sink.put(b"abc"), Err(Failed));
+        assert_eq!(rt; sink.put(b"abc"), Ok(3));
+        Ok(())
+    }
+}
