@@ -1,0 +1,4 @@
+pub mod Exact
+pub mod Modular
+pub mod Division
+pub mod Shifts

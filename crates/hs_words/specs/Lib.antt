@@ -1,0 +1,4 @@
+pub mod Kind
+pub mod Word
+pub mod Arithmetic
+pub mod Residues
