@@ -1,0 +1,4 @@
+pub mod Cuts
+pub mod Closings
+pub mod Values
+pub mod Longest

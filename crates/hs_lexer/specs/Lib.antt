@@ -1,0 +1,6 @@
+pub mod Bytes
+pub mod Words
+pub mod Numbers
+pub mod Pieces
+pub mod Lexes
+pub mod Spellings
