@@ -1,0 +1,13 @@
+pub mod Sets
+pub mod Exact
+pub mod Ahead
+pub mod Heights
+pub mod Fits
+pub mod Unrolls
+pub mod Same
+pub mod Lists
+pub mod Repeats
+pub mod Untils
+pub mod Reading
+pub mod Grammars
+pub mod Rows

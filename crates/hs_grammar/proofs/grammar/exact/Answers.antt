@@ -1,0 +1,20 @@
+use Rattle.hs_grammar.proofs.Grammars as grammars
+use Rattle.hs_grammar.proofs.grammar.exact.Goals as goal
+
+pub returns-clause-answers : goal.returns-clause-answers
+returns-clause-answers g c = grammars.answers g.G.Grammar.tells g.G.Grammar.written g.G.Grammar.parsed g.G.Grammar.agree g.G.Grammar.tables g.G.Grammar.fits
+
+pub returns-clause-found : goal.returns-clause-found
+returns-clause-found g c = grammars.found g.G.Grammar.tells g.G.Grammar.written g.G.Grammar.parsed g.G.Grammar.agree g.G.Grammar.tables g.G.Grammar.fits
+
+pub returns-clause-unique : goal.returns-clause-unique
+returns-clause-unique g c = grammars.unique g.G.Grammar.tells g.G.Grammar.written g.G.Grammar.parsed g.G.Grammar.agree g.G.Grammar.tables g.G.Grammar.fits
+
+pub returns-clause-apart : goal.returns-clause-apart
+returns-clause-apart g c = grammars.apart g.G.Grammar.tells g.G.Grammar.written g.G.Grammar.parsed g.G.Grammar.agree g.G.Grammar.tables g.G.Grammar.fits
+
+pub returns-clause-parses : goal.returns-clause-parses
+returns-clause-parses g c = grammars.parses g.G.Grammar.tells g.G.Grammar.written g.G.Grammar.parsed g.G.Grammar.agree g.G.Grammar.tables g.G.Grammar.fits
+
+pub returns-clause-only : goal.returns-clause-only
+returns-clause-only g c = grammars.only g.G.Grammar.tells g.G.Grammar.written g.G.Grammar.parsed g.G.Grammar.agree g.G.Grammar.tables g.G.Grammar.fits

@@ -1,0 +1,13 @@
+pub mod Form
+pub mod Kinds
+pub mod Derives
+pub mod Break
+pub mod Lookahead
+pub mod Parser
+pub mod Same
+pub mod Words
+pub mod Reads
+pub mod Repeat
+pub mod Until
+pub mod Whole
+pub mod Rows
