@@ -1,0 +1,12 @@
+pub mod Value
+pub mod Operation
+pub mod Plain
+pub mod Of
+pub mod Features
+pub mod Names
+pub mod Count
+pub mod Sound
+pub mod Store
+pub mod Run
+pub mod Call
+pub mod Compute
