@@ -1,0 +1,9 @@
+pub mod Lexing
+pub mod Numbers
+pub mod Listing
+pub mod Locals
+pub mod Steps
+pub mod Grammar
+pub mod Statements
+pub mod Files
+pub mod Whole

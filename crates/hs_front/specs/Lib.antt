@@ -1,0 +1,9 @@
+pub mod Tokens
+pub mod Surface
+pub mod Accepted
+pub mod Stops
+pub mod Read
+pub mod Parse
+pub mod Resolve
+pub mod Locals
+pub mod Checked
