@@ -1,0 +1,11 @@
+use Rattle.std.proofs.Common.{◌≡◌, ◌++◌, map, drop, flat_map}
+use Rattle.hs_tree.specs.Of.{param_of}
+use Rattle.hs_cli.specs.Layout.{par_text}
+use Rattle.hs_cli.specs.Lower.{lowered_param}
+use Rattle.hs_cli.proofs.module.write_each.Given as goal
+
+-- with the text of the parameters that are left, the text is that of all parameters
+abbrev pub invariant-loop-parameter : goal.invariant-loop-parameter
+invariant-loop-parameter l =
+    l.text.items ++ flat_map par_text (map (lowered_param l.names) (map param_of (drop l.parameter-index l.parameters)))
+    ≡ l.initial.text.items ++ flat_map par_text (map (lowered_param l.names) (map param_of l.parameters))

@@ -1,0 +1,16 @@
+pub mod Module
+pub mod Spelled
+pub mod Tokens
+pub mod Reads
+pub mod Layout
+pub mod Means
+pub mod Same
+pub mod Lower
+pub mod Scoped
+pub mod Forms
+pub mod Status
+pub mod Output
+pub mod Ends
+pub mod Written
+pub mod Lines
+pub mod Counted
