@@ -2,3 +2,4 @@ pub mod Cuts
 pub mod Closings
 pub mod Values
 pub mod Longest
+pub mod Places

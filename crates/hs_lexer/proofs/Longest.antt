@@ -211,12 +211,12 @@ longest_mark b bs other unquoted (c ∷ ws) rest e s =
       ]
     ]
 
-pick : (c : Bool) (x y : Result Piece Rule) (p : Piece) → (if c then x else y) ≡ Ok p
+pub pick : (c : Bool) (x y : Result Piece Rule) (p : Piece) → (if c then x else y) ≡ Ok p
     → ((c ≡ true) × (x ≡ Ok p)) ⊎ ((c ≡ false) × (y ≡ Ok p))
 pick true x y p e = inl (refl, e)
 pick false x y p e = inr (refl, e)
 
-gap_no_kind : (n : ℕ) (p : Piece) (k : TokenKind) → ◌≡◌ {A = Result Piece Rule} (Ok (gap n)) (Ok p) → p.kind ≡ Some k → ⊥
+pub gap_no_kind : (n : ℕ) (p : Piece) (k : TokenKind) → ◌≡◌ {A = Result Piece Rule} (Ok (gap n)) (Ok p) → p.kind ≡ Some k → ⊥
 gap_no_kind n p k e f = let same : gap n ≡ p = cc in let none = ap (λ q. q.kind) same in cc
 
 comment_no_kind : (o : Option ℕ) (p : Piece) (k : TokenKind) → closed o ≡ Ok p → p.kind ≡ Some k → ⊥
@@ -239,7 +239,7 @@ mark_at_length : (s : List ℕ) (p : Piece) → mark_at s ≡ Ok p → p.length 
 unfolding mark_at
 mark_at_length s p e = mark_length (longest_front is_mark 3 s) p e
 
-comment_at_no_kind : (s : List ℕ) (p : Piece) (k : TokenKind) → comment_before s ≡ Ok p → p.kind ≡ Some k → ⊥
+pub comment_at_no_kind : (s : List ℕ) (p : Piece) (k : TokenKind) → comment_before s ≡ Ok p → p.kind ≡ Some k → ⊥
 unfolding comment_before
 comment_at_no_kind s p k e f = comment_no_kind (closed_after 0 s) p k e f
 

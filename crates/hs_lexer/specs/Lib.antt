@@ -3,4 +3,5 @@ pub mod Words
 pub mod Numbers
 pub mod Pieces
 pub mod Lexes
+pub mod Places
 pub mod Spellings

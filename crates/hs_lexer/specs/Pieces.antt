@@ -57,11 +57,12 @@ string_before s =
     let inside = prefix_len is_text_byte s in
     if begins_quote (drop inside s) then Ok (spelling Text (inside + 2)) else Err X1
 
--- the longest mark that begins the text
+-- the mark of so many bytes; no token begins where there are none
 abbrev pub mark_of : ℕ → Result Piece Rule
 mark_of zero = Err X1
 mark_of (suc n) = Ok (spelling Mark (suc n))
 
+-- the longest mark, of at most three bytes, that begins the text
 unfoldable pub mark_at : List ℕ → Result Piece Rule
 mark_at s = mark_of (longest_front is_mark 3 s)
 

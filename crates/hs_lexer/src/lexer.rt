@@ -7,6 +7,7 @@ ghost use Rattle.hs_lexer.specs.declared.piece.Piece.{Piece};
 ghost use Rattle.hs_lexer.specs.Pieces.{piece_at};
 ghost use Rattle.hs_lexer.specs.Spellings.{IsLongest};
 ghost use Rattle.hs_lexer.specs.Lexes.{Lexes, LexBreak, token_before, place_behind};
+ghost use Rattle.hs_lexer.specs.Places.{Placed, IsNamed};
 
 use crate::piece::piece_at;
 use crate::place::place_behind;
@@ -34,6 +35,9 @@ pub fn lex(alloc: Global, bytes: &[u8]) -> Result<Tokens, Stop>
     ensures broken { IfErr result (λ stop. (b : Broken) → stop ≡ Stop.Broken b → LexBreak bytes.now b) }
     ensures only_tokens { (tokens : List Token) → Lexes bytes.now tokens → (result ≡ Ok tokens) ⊎ (result ≡ Err Stop.NoMemory) }
     ensures only_break { (b : Broken) → LexBreak bytes.now b → (result ≡ Err (Stop.Broken b)) ⊎ (result ≡ Err Stop.NoMemory) }
+    ensures apart { (tokens : List Token) (b : Broken) → Lexes bytes.now tokens → LexBreak bytes.now b → ⊥ }
+    ensures placed { IfOk result (λ tokens. Placed 0 (length bytes.now) tokens) }
+    ensures named { IfOk result (λ tokens. All (IsNamed bytes.now) tokens) }
     ensures longest { IfOk result (λ tokens. All (IsLongest bytes.now) tokens) }
     ensures one { (tokens others : List Token) → Lexes bytes.now tokens → Lexes bytes.now others → tokens ≡ others }
 {
@@ -50,6 +54,7 @@ pub fn lex(alloc: Global, bytes: &[u8]) -> Result<Tokens, Stop>
 fn read_pieces(alloc: Global, bytes: &[u8]) -> Result<Tokens, Stop>
     requires { length bytes.now ≤ 262144 }
     ensures tokens { IfOk result (λ tokens. Lexes bytes.now tokens) }
+    ensures placed { IfOk result (λ tokens. Placed 0 (length bytes.now) tokens) }
     ensures broken { IfErr result (λ stop. (b : Broken) → stop ≡ Stop.Broken b → LexBreak bytes.now b) }
 {
     let mut tokens = Tokens::new(alloc);

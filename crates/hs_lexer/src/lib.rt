@@ -10,6 +10,7 @@ mod token;
 mod words;
 
 pub use lexer::lex;
+pub use place::place_behind;
 pub use token::{Token, TokenKind, Tokens};
 
 #[cfg(test)]

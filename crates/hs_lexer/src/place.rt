@@ -29,9 +29,9 @@ fn last_line(before: &[u8]) -> usize
         .count()
 }
 
-/// The place behind a text.
+/// The place behind a text: its bytes from 0, its lines and columns from 1, columns in bytes.
 #[tactic(auto, unfolding(crate::specs::Lexes::place_behind))]
-pub(crate) fn place_behind(before: &[u8]) -> Pos
+pub fn place_behind(before: &[u8]) -> Pos
     ensures { result ≡ place_behind before.now }
 {
     Pos {
