@@ -1,0 +1,10 @@
+pub mod Computed
+pub mod Lists
+pub mod Bytes
+pub mod Same
+pub mod Order
+pub mod Runs
+pub mod Misfits
+pub mod Entries
+pub mod Complete
+pub mod Accords

@@ -1,0 +1,11 @@
+pub mod Answer
+pub mod Views
+pub mod Numbers
+pub mod Rows
+pub mod Parts
+pub mod Op
+pub mod Known
+pub mod Names
+pub mod Row
+pub mod Table
+pub mod Standard
