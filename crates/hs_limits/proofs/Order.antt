@@ -1,0 +1,102 @@
+-- What is broken is listed in the order in which it is told, where nodes lie one behind the other and parts in their nodes.
+use Rattle.std.proofs.Common.{ℕ, suc, ◌≡◌, ◌<◌, ◌≤◌, ◌⊎◌, inl, inr, refl, sym, ◌∙◌, subst, Bool, true, false, cond, ltb, Option, Some, None, List, [], ◌∷◌, ◌++◌, map, arith}
+use Rattle.std.proofs.Math.Nat.{eq-or-lt_of_le}
+use Rattle.hs_base.specs.declared.rule.Rule.{Rule}
+use Rattle.hs_base.specs.declared.rule.Rule.TheVariants.{S2}
+use Rattle.hs_syntax.specs.declared.span.Span.{Span}
+use Rattle.hs_limits.specs.Outline.{Outline, Kind, Surplus, none, join, node, counted, through, apart, parameter, statement, part, rise, height}
+use Rattle.hs_limits.specs.Nested.{Nested}
+use Rattle.hs_limits.specs.Told.{Mark, mark, marks, too_high, too_many, Before, Each, Answers}
+use Rattle.hs_limits.specs.Walk.{first}
+use Rattle.hs_limits.proofs.First.{head_of, first_is}
+
+-- each is told before all that follow
+abbrev Sorted : List Mark → Type 0
+Sorted [] = Unit {0}
+Sorted (m ∷ ms) = Each (Before m) ms × Sorted ms
+
+abbrev Within : ℕ → ℕ → ℕ → Mark → Type 0
+Within low high depth m = (low < m.at.end) × (m.at.end ≤ high) × (depth ≤ m.depth)
+
+-- in order, with ends between the two places, in so many nodes at least
+abbrev In : ℕ → ℕ → ℕ → List Mark → Type 0
+In low high depth ms = Each (Within low high depth) ms × Sorted ms
+
+each_map : (P Q : Mark → Type 0) → ((m : Mark) → P m → Q m) → (ms : List Mark) → Each P ms → Each Q ms
+each_map P Q f [] h = tt {0}
+each_map P Q f (m ∷ ms) h = (f m h.0, each_map P Q f ms h.1)
+
+each_append : (P : Mark → Type 0) (xs ys : List Mark) → Each P xs → Each P ys → Each P (xs ++ ys)
+each_append P [] ys h k = k
+each_append P (x ∷ xs) ys h k = (h.0, each_append P xs ys h.1 k)
+
+sorted_append : (P Q : Mark → Type 0) → ((m n : Mark) → P m → Q n → Before m n) → (xs ys : List Mark) → Each P xs → Each Q ys → Sorted xs → Sorted ys → Sorted (xs ++ ys)
+sorted_append P Q f [] ys h k a b = b
+sorted_append P Q f (x ∷ xs) ys h k a b =
+    (each_append (Before x) xs ys a.0 (each_map Q (Before x) (λ n q. f x n h.0 q) ys k), sorted_append P Q f xs ys h.1 k a.1 b)
+
+nested_ordered : (o : Outline) (low high : ℕ) → Nested o low high → low ≤ high
+nested_ordered none low high h = h
+nested_ordered (join a b) low high h = let i = nested_ordered a low h.0 h.1 in let j = nested_ordered b h.0 high h.2 in omega (arith, i, j)
+nested_ordered (node at kind over parts) low high h = omega (arith, h.0, h.1, h.2)
+
+in_append : (low middle high depth : ℕ) (xs ys : List Mark) → low ≤ middle → middle ≤ high → In low middle depth xs → In middle high depth ys → In low high depth (xs ++ ys)
+in_append low middle high depth xs ys p r h k = (
+  each_append (Within low high depth) xs ys
+      (each_map (Within low middle depth) (Within low high depth) (λ m q. (q.0, omega (arith, q.1, r), q.2)) xs h.0)
+      (each_map (Within middle high depth) (Within low high depth) (λ m q. (omega (arith, q.0, p), q.1, q.2)) ys k.0),
+  sorted_append (Within low middle depth) (Within middle high depth) (λ m n a b. inl (omega (arith, a.1, b.0))) xs ys h.0 k.0 h.1 k.1,
+)
+
+-- the rules of one node
+abbrev Own : Span → ℕ → Mark → Type 0
+Own at depth m = (m.at.end ≡ at.end) × (m.depth ≡ depth)
+
+own_each : (at : Span) (depth : ℕ) (rules : List Rule) → Each (Own at depth) (map (mark at depth) rules)
+own_each at depth [] = tt {0}
+own_each at depth (r ∷ rs) = ((refl, refl), own_each at depth rs)
+
+own_sorted : (at : Span) (depth : ℕ) (b : Bool) (over : Option Surplus) → Sorted (map (mark at depth) (cond b (S2 ∷ []) [] ++ too_many over))
+own_sorted at depth true None = (tt {0}, tt {0})
+own_sorted at depth true (Some parameter) = ((inr (refl, inr (refl, omega arith)), tt {0}), (tt {0}, tt {0}))
+own_sorted at depth true (Some statement) = ((inr (refl, inr (refl, omega arith)), tt {0}), (tt {0}, tt {0}))
+own_sorted at depth true (Some part) = ((inr (refl, inr (refl, omega arith)), tt {0}), (tt {0}, tt {0}))
+own_sorted at depth false None = tt {0}
+own_sorted at depth false (Some parameter) = (tt {0}, tt {0})
+own_sorted at depth false (Some statement) = (tt {0}, tt {0})
+own_sorted at depth false (Some part) = (tt {0}, tt {0})
+
+own_in_order : (at : Span) (depth : ℕ) (kind : Kind) (over : Option Surplus) (h : ℕ) → Sorted (map (mark at depth) (too_high kind h ++ too_many over))
+own_in_order at depth counted over h = own_sorted at depth (ltb 64 h) over
+own_in_order at depth through over h = own_sorted at depth false over
+own_in_order at depth apart over h = own_sorted at depth false over
+
+before_own : (at : Span) (depth : ℕ) (m n : Mark) → m.at.end ≤ at.end → suc depth ≤ m.depth → Own at depth n → (m.at.end ≡ at.end) ⊎ (m.at.end < at.end) → Before m n
+before_own at depth m n a b p (inl h) = inr (h ∙ sym p.0, inl (omega (arith, b, p.1)))
+before_own at depth m n a b p (inr h) = inl (omega (arith, h, p.0))
+
+in_node : (at : Span) (depth low high : ℕ) (rules : List Rule) (ms : List Mark) → low ≤ at.start → at.start < at.end → at.end ≤ high
+    → In at.start at.end (suc depth) ms → Sorted (map (mark at depth) rules) → In low high depth (ms ++ map (mark at depth) rules)
+in_node at depth low high rules ms p q r h k = (
+  each_append (Within low high depth) ms (map (mark at depth) rules)
+      (each_map (Within at.start at.end (suc depth)) (Within low high depth) (λ m w. (omega (arith, w.0, p), omega (arith, w.1, r), omega (arith, w.2))) ms h.0)
+      (each_map (Own at depth) (Within low high depth) (λ m w. (omega (arith, w.0, p, q), omega (arith, w.0, r), omega (arith, w.1))) (map (mark at depth) rules) (own_each at depth rules)),
+  sorted_append (Within at.start at.end (suc depth)) (Own at depth) (λ m n a b. before_own at depth m n a.1 a.2 b (eq-or-lt_of_le a.1))
+      ms (map (mark at depth) rules) h.0 (own_each at depth rules) h.1 k,
+)
+
+in_order : (o : Outline) (depth low high : ℕ) → Nested o low high → In low high depth (marks o depth)
+in_order none depth low high h = (tt {0}, tt {0})
+in_order (join a b) depth low high h =
+    in_append low h.0 high depth (marks a depth) (marks b depth) (nested_ordered a low h.0 h.1) (nested_ordered b h.0 high h.2) (in_order a depth low h.0 h.1) (in_order b depth h.0 high h.2)
+in_order (node at kind over parts) depth low high h =
+    in_node at depth low high (too_high kind (rise kind (height parts)) ++ too_many over) (marks parts (suc depth)) h.0 h.1 h.2
+    (in_order parts (suc depth) at.start at.end h.3) (own_in_order at depth kind over (rise kind (height parts)))
+
+head_told : (ms : List Mark) → Sorted ms → Answers ms (head_of ms)
+head_told [] h = refl
+head_told (m ∷ ms) h = (m, inl refl, (inr (refl, inr (refl, omega arith)), h.0), refl, refl)
+
+-- where nodes are nested, the first on the way is the told one
+pub first_told : (o : Outline) (low high : ℕ) → Nested o low high → Answers (marks o 0) (first o)
+first_told o low high h = subst (Answers (marks o 0)) (sym (first_is o 0)) (head_told (marks o 0) (in_order o 0 low high h).1)

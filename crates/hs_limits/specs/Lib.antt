@@ -1,0 +1,5 @@
+pub mod Nested
+pub mod Nodes
+pub mod Outline
+pub mod Told
+pub mod Walk

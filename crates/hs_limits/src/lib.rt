@@ -1,0 +1,12 @@
+//! Which trees keep the limits on heights and lengths, and which limit is told of one that does not.
+#![tactic(auto)]
+
+mod flat;
+mod items;
+mod passed;
+#[cfg(test)]
+mod tests;
+mod walk;
+
+pub use items::limits;
+pub use passed::Passed;
