@@ -1,11 +1,11 @@
 -- A statement of a body is a line, and what follows it.
-use Rattle.std.proofs.Common.{◌≡◌, ℕ, List, [], ◌∷◌, ◌++◌, codes, append_assoc, refl, sym, ap, ◌∙◌, map, false}
+use Rattle.std.proofs.Common.{◌≡◌, ℕ, List, ◌∷◌, ◌++◌, codes, append_assoc, refl, ap, ◌∙◌, false}
 use Rattle.hs_tree.specs.Plain as tree
 use Rattle.hs_cli.specs.Module.{Em}
 use Rattle.hs_cli.specs.Spelled.{is_let}
 use Rattle.hs_cli.specs.Reads.{var_text}
 use Rattle.hs_cli.specs.Layout.{em_text, bound_text, spaces}
-use Rattle.hs_cli.specs.Lower.{lowered_var, lowered_exp, lowered_rhs, lowered_stmt, lowered_stmts}
+use Rattle.hs_cli.specs.Lower.{lowered_var, lowered_rhs, lowered_stmt}
 use Rattle.hs_cli.specs.Lines.{let_text}
 
 no_let : (names : List (List ℕ)) (r : tree.Rhs) → is_let (lowered_rhs names r) ≡ false

@@ -1,23 +1,23 @@
 -- The module of a sound program in which nothing is assigned is spelled, scoped and of the program's shape.
-use Rattle.std.proofs.Common.{◌≡◌, ◌≢◌, ◌⊎◌, inl, inr, ℕ, zero, suc, ◌+◌, ◌^◌, ◌<◌, ◌≤◌, List, [], ◌∷◌, map, length, get_or, Bool, true, false, cond, eqb, ltb, leb, not, ◌&&◌, ◌||◌, bytes_eq, Option, Some, None, codes, refl, sym, ap, ◌∙◌, subst, arith, true≢false}
-use Rattle.std.proofs.lemmas.Bool.{eqb-true, eq-eqb, ltb-true}
+use Rattle.std.proofs.Common.{◌≡◌, ◌≢◌, ℕ, zero, suc, ◌^◌, ◌<◌, List, [], ◌∷◌, map, length, get_or, Bool, true, false, cond, eqb, leb, not, ◌&&◌, ◌||◌, bytes_eq, Option, Some, None, codes, refl, sym, ap, ◌∙◌, subst, arith, true≢false}
+use Rattle.std.proofs.lemmas.Bool.{eqb-true, eq-eqb}
 use Rattle.std.proofs.lemmas.Slice.Eq.{bytes_eq-Decides}
 use Rattle.std.proofs.lemmas.Map.Keys.{IsDistinct-head, IsDistinct-tail}
 use Rattle.std.specs.List.{AllByRecursion, IsDistinct, list_any, list_all}
 use Rattle.hs_tree.specs.Value.{ValType, U32}
 use Rattle.hs_tree.specs.Operation.{row_types}
 use Rattle.hs_tree.specs.Plain as tree
-use Rattle.hs_tree.specs.Call.{header_of}
 use Rattle.hs_tree.specs.Names as names
-use Rattle.hs_tree.specs.Sound.{ScopedExp, ScopedExps, ScopedRhs, ScopedStmts, ScopedBlock, TypedExp, TypedExps, TypedRhs, TypedStmts, TypedBlock, SoundFunction, Sound}
-use Rattle.hs_front.specs.Tokens.{is_word_byte}
-use Rattle.hs_front.specs.Surface.{all_of, begins_with_letter, contains, reserved}
-use Rattle.hs_cli.specs.Module.{EmVar, Em, local, number, op, bind, given, Ems, no_ems, em, EmPar, EmDef, Module}
+use Rattle.hs_tree.specs.Sound.{ScopedExp, ScopedExps, ScopedRhs, ScopedStmts, ScopedBlock, TypedExp, TypedExps, TypedRhs, TypedStmts, TypedBlock, SoundFunction}
+use Rattle.hs_tree.specs.Names.{is_word_byte}
+use Rattle.std.specs.List.{list_all, list_any}
+use Rattle.hs_tree.specs.Names.{reserved}
+use Rattle.hs_cli.specs.Module.{EmVar, Em, local, number, op, bind, given, Ems, no_ems, em, EmPar, EmDef}
 use Rattle.hs_cli.specs.Spelled.{is_text_name, is_module_name, is_let, SpelledVar, SpelledEm, SpelledEms, SpelledPars, SpelledDefs, Spelled}
 use Rattle.hs_cli.specs.Means.{same_var}
 use Rattle.hs_cli.specs.Scoped.{has_var, DistinctVars, count, ScopedEm, ScopedEms, vars_of, ScopedDefs, Scoped}
 use Rattle.hs_cli.specs.Lower.{lowered_var, lowered_exp, lowered_exps, lowered_rhs, lowered_stmts, lowered_block, lowered_param, lowered_function, lowered}
-use Rattle.hs_cli.specs.Same.{types_of, SameHeader, Shape}
+use Rattle.hs_cli.specs.Same.{Shape}
 use Rattle.hs_cli.specs.Counted.{Numbered}
 use Rattle.hs_cli.proofs.Meanings.{same_lowered}
 
@@ -37,12 +37,12 @@ split false b e = absurd (cc e)
 -- names of programs are names of texts
 name_text : (w : List ℕ) → names.is_name w ≡ true → is_text_name w ≡ true
 name_text [] h = absurd (cc h)
-name_text (b ∷ bs) h = go (names.is_letter b) (names.is_word_byte b) (first b) (list_all names.is_word_byte bs) (all_of is_word_byte bs) (all_same bs) (leb (length (b ∷ bs)) 64) (not (bytes_eq (b ∷ bs) (codes "_"))) (not (contains (b ∷ bs) reserved)) h
+name_text (b ∷ bs) h = go (names.is_letter b) (names.is_word_byte b) (first b) (list_all names.is_word_byte bs) (list_all is_word_byte bs) (all_same bs) (leb (length (b ∷ bs)) 64) (not (bytes_eq (b ∷ bs) (codes "_"))) (not (list_any (bytes_eq (b ∷ bs)) reserved)) h
   where
     first : (b : ℕ) → names.is_letter b ≡ true → names.is_word_byte b ≡ true
     first b e = rw e refl
 
-    all_same : (bs : List ℕ) → list_all names.is_word_byte bs ≡ all_of is_word_byte bs
+    all_same : (bs : List ℕ) → list_all names.is_word_byte bs ≡ list_all is_word_byte bs
     all_same [] = refl
     all_same (b ∷ bs) = ap (λ x. is_word_byte b && x) (all_same bs)
 

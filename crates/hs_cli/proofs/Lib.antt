@@ -10,5 +10,3 @@ pub mod Rows
 pub mod Whole
 pub mod Bindings
 pub mod Prints
-pub mod SourceWords
-pub mod Sources

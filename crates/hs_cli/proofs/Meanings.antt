@@ -1,25 +1,20 @@
 -- The meaning of a definition's body is the run of the function's block.
-use Rattle.std.proofs.Common.{◌≡◌, ◌≢◌, ◌⊎◌, ◌↔◌, inl, inr, ℕ, zero, suc, ◌+◌, ◌^◌, ◌<◌, List, [], ◌∷◌, map, length, Bool, true, false, cond, eqb, ltb, ◌&&◌, bytes_eq, get_or, Option, Some, None, option_map, slice_get, refl, sym, ap, ◌∙◌, subst, arith}
-use Rattle.std.proofs.Math.Path.{fun_ext}
-use Rattle.std.proofs.lemmas.Bool.{eqb-true, eq-eqb, ltb-true, lt-ltb}
-use Rattle.std.proofs.lemmas.Bool.Decides.{eqb_tells, nat_tests}
+use Rattle.std.proofs.Common.{◌≡◌, ◌≢◌, ◌↔◌, ℕ, ◌+◌, List, [], ◌∷◌, map, Bool, true, false, cond, eqb, ◌&&◌, bytes_eq, get_or, Option, Some, None, option_map, slice_get, refl, sym, ap, ◌∙◌, subst, arith}
+use Rattle.std.proofs.lemmas.Bool.{eqb-true, eq-eqb}
 use Rattle.std.proofs.lemmas.Slice.Eq.{bytes_eq-Decides}
 use Rattle.std.proofs.lemmas.Option.{slice_get-map}
-use Rattle.std.specs.List.{AllByRecursion}
-use Rattle.hs_tree.specs.Value.{ValType, U32, Value, Number, Panic, Overflow}
-use Rattle.hs_tree.specs.Value as val
+use Rattle.hs_tree.specs.Value.{ValType, Value}
 use Rattle.hs_tree.specs.Operation.{Applied, Is, Fails, Kind, applied}
 use Rattle.hs_tree.specs.Plain as tree
-use Rattle.hs_tree.specs.Store.{Slot, Empty, Moved, Has, Store, empty, put, Outcome, Gives, Exits, Panics}
+use Rattle.hs_tree.specs.Store.{Slot, Empty, Moved, Has, Store, put, Gives, Exits, Panics}
 use Rattle.hs_tree.specs.Call as call
 use Rattle.hs_tree.specs.Call.{Calls}
 use Rattle.hs_tree.specs.Compute as compute
 use Rattle.hs_tree.specs.Compute.{Out, Stuck, Ran, Process, follow, next, read, apply, run_exp, run_exps, run_rhs, run_stmt, run_stmts, run_block, Answer, NoCall, Ended, ended, result_of, answer_at, run_function, run_found, run_call}
-use Rattle.hs_cli.specs.Module.{EmVar, Em, local, number, op, bind, given, Ems, no_ems, em, EmPar, EmDef, Module}
-use Rattle.hs_cli.specs.Means.{Meaning, value, panic, stuck, more, and_then, operated, same_var, fits, of_type, called, means}
-use Rattle.hs_cli.specs.Lower.{lowered_var, lowered_exp, lowered_exps, lowered_rhs, lowered_stmt, lowered_stmts, lowered_block, lowered_param, lowered_function, lowered}
+use Rattle.hs_cli.specs.Means.{Meaning, value, panic, stuck, more, and_then, operated, same_var, fits, of_type, means}
+use Rattle.hs_cli.specs.Lower.{lowered_var, lowered_exp, lowered_exps, lowered_rhs, lowered_stmts, lowered_block, lowered_param, lowered_function, lowered}
 use Rattle.hs_cli.proofs.Ends as Ends
-use Rattle.hs_cli.proofs.Environment.{Env, unbound, bound, looked, evaluated, all_evaluated, env_of, evaluated_in, called_in, means_env}
+use Rattle.hs_cli.proofs.Environment.{Env, bound, looked, evaluated, all_evaluated, env_of, evaluated_in, called_in, means_env}
 
 -- a meaning says what a run says; a run of an expression leaves its store as it was
 abbrev pub Alike : Meaning → Out → Type 0

@@ -4,8 +4,8 @@ use Rattle.std.specs.Prelude.{bytes_eq}
 use Rattle.std.proofs.lemmas.Bool.{true≢false, and_parts}
 use Rattle.std.proofs.lemmas.Fmt.{decimal_injective}
 use Rattle.hs_tree.specs.Value.{ValType, U32}
-use Rattle.hs_front.specs.Tokens.{is_digit}
-use Rattle.hs_front.specs.Surface.{all_of}
+use Rattle.hs_cli.specs.Bytes.{is_digit}
+use Rattle.std.specs.List.{list_all}
 use Rattle.hs_cli.specs.Module.{EmVar, Em, local, number, op, bind, given, Ems, no_ems, em, EmPar, EmDef, Module}
 use Rattle.hs_cli.specs.Spelled.{SpelledVar, SpelledEm, SpelledEms, SpelledPars, SpelledDefs}
 use Rattle.hs_cli.specs.Tokens.{Token, Word, Mark}
@@ -13,15 +13,15 @@ use Rattle.hs_cli.specs.Reads.{var_text, type_text, em_tokens, ems_tokens, par_t
 use Rattle.hs_cli.proofs.Printed.{decimal_digits}
 
 -- no `_` stands among digits
-no_underscore : (b d : List ℕ) → all_of is_digit (b ++ (95 ∷ d)) ≡ true → ⊥
+no_underscore : (b d : List ℕ) → list_all is_digit (b ++ (95 ∷ d)) ≡ true → ⊥
 no_underscore [] d y = true≢false (sym y)
-no_underscore (c ∷ b) d y = no_underscore b d (and_parts (is_digit c) (all_of is_digit (b ++ (95 ∷ d))) y).1
+no_underscore (c ∷ b) d y = no_underscore b d (and_parts (is_digit c) (list_all is_digit (b ++ (95 ∷ d))) y).1
 
 -- the last `_` parts a name from its digits
-last_underscore : (a b d k : List ℕ) → all_of is_digit d ≡ true → all_of is_digit k ≡ true → a ++ (95 ∷ d) ≡ b ++ (95 ∷ k) → (a ≡ b) × (d ≡ k)
+last_underscore : (a b d k : List ℕ) → list_all is_digit d ≡ true → list_all is_digit k ≡ true → a ++ (95 ∷ d) ≡ b ++ (95 ∷ k) → (a ≡ b) × (d ≡ k)
 last_underscore [] [] d k p q e = ((cc), (cc))
-last_underscore [] (c ∷ b) d k p q e = let t : d ≡ b ++ (95 ∷ k) = cc in absurd (no_underscore b k (ap (all_of is_digit) (sym t) ∙ p))
-last_underscore (c ∷ a) [] d k p q e = let t : a ++ (95 ∷ d) ≡ k = cc in absurd (no_underscore a d (ap (all_of is_digit) t ∙ q))
+last_underscore [] (c ∷ b) d k p q e = let t : d ≡ b ++ (95 ∷ k) = cc in absurd (no_underscore b k (ap (list_all is_digit) (sym t) ∙ p))
+last_underscore (c ∷ a) [] d k p q e = let t : a ++ (95 ∷ d) ≡ k = cc in absurd (no_underscore a d (ap (list_all is_digit) t ∙ q))
 last_underscore (c ∷ a) (h ∷ b) d k p q e =
     let t : a ++ (95 ∷ d) ≡ b ++ (95 ∷ k) = cc in
     let i : (a ≡ b) × (d ≡ k) = last_underscore a b d k p q t in

@@ -1,5 +1,5 @@
 -- What a fetch gave leads to an output.
-use Rattle.std.proofs.Common.{arith, rules, ◌≡◌, ℕ, ◌+◌, ◌<◌, ◌≤◌, Bool, true, false, List, [], ◌∷◌, length, ◌⊎◌, inl, inr, None, Some, Option, Result, Ok, Err, IfOk, bytes_eq, refl, sym, ap, subst, ◌∙◌, replicate, if◌then◌else◌}
+use Rattle.std.proofs.Common.{arith, ◌≡◌, ℕ, ◌+◌, ◌<◌, ◌≤◌, true, List, [], ◌∷◌, length, inl, inr, None, Some, Option, Result, Ok, Err, IfOk, bytes_eq, refl, sym, ap, subst, replicate, if◌then◌else◌}
 use Rattle.std.proofs.lemmas.Slice.Eq.{bytes_eq-Decides}
 use Rattle.std.proofs.lemmas.List.{length-replicate}
 use Rattle.hs_base.specs.Told.{Entry, bytes_under, Holds, Lacks, Exceeds}

@@ -1,7 +1,7 @@
 -- Prefixes that sinks took.
-use Rattle.std.proofs.Common.{◌≡◌, ℕ, Bool, true, false, List, [], ◌++◌, None, Some, Option, Result, Ok, Err, OnOk, OnErr, is_err, length, take, refl, sym, append-nil, subst, take_all, arith}
-use Rattle.std.specs.Io.KnownBytes.{Keeps, Appends}
-use Rattle.std.proofs.KnownBytes.{Appends-nil, Keeps-refl}
+use Rattle.std.proofs.Common.{◌≡◌, ℕ, true, false, List, Option, Result, Ok, Err, OnOk, OnErr, is_err, length, sym, subst, take_all, arith}
+use Rattle.std.specs.Io.KnownBytes.{Appends}
+use Rattle.std.proofs.KnownBytes.{Appends-nil}
 use Rattle.hs_base.specs.Causes.{TookPrefix}
 
 pub took_none : (a : Option (List ℕ)) (bytes : List ℕ) → TookPrefix a a bytes

@@ -5,8 +5,11 @@ use Rattle.std.proofs.lemmas.Bool.{true≢false, eqb-true, and_parts, and_from, 
 use Rattle.std.proofs.lemmas.Bool.Decides.{nat_tests}
 use Rattle.std.proofs.lemmas.Fmt.{decimal_by_steps, decimal_nonempty}
 use Rattle.hs_tree.specs.Value.{ValType, U32}
-use Rattle.hs_front.specs.Tokens.{is_letter, is_digit, is_word_byte, begins_word}
-use Rattle.hs_front.specs.Surface.{all_of, begins_with_letter, contains, reserved}
+use Rattle.hs_tree.specs.Names.{is_letter, is_word_byte}
+use Rattle.hs_cli.specs.Bytes.{is_digit, begins_word}
+use Rattle.std.specs.List.{list_all, list_any}
+use Rattle.hs_cli.specs.Bytes.{begins_with_letter}
+use Rattle.hs_tree.specs.Names.{reserved}
 use Rattle.hs_cli.specs.Module.{EmVar, Em, local, number, op, bind, given, Ems, no_ems, em, EmPar, EmDef, Module}
 use Rattle.hs_cli.specs.Spelled.{is_text_name, is_module_name, is_let, SpelledVar, SpelledEm, SpelledEms, SpelledPars, SpelledDefs, Spelled, begins_upper}
 use Rattle.hs_cli.specs.Tokens.{Token, Word, Mark, Outside, begins, with_word, tokens_from}
@@ -38,54 +41,54 @@ letter_before b text ts y e =
     simp (e1, e2, e3, e4, e5, e, y)
 
 -- a run of bytes of a word is one word
-word_before : (b : ℕ) (w : List ℕ) (text : List ℕ) (ts : List Token) → all_of is_word_byte (b ∷ w) ≡ true → Apart text ts → tokens_from Outside (b ∷ (w ++ text)) ≡ Some (Word (b ∷ w) ∷ ts)
+word_before : (b : ℕ) (w : List ℕ) (text : List ℕ) (ts : List Token) → list_all is_word_byte (b ∷ w) ≡ true → Apart text ts → tokens_from Outside (b ∷ (w ++ text)) ≡ Some (Word (b ∷ w) ∷ ts)
 word_before b [] text ts y h =
     letter_before b text ts (and_parts (is_word_byte b) true y).0 h.has.tokens ∙ rw h.word refl
 word_before b (c ∷ w) text ts y h =
-    let p : (is_word_byte b ≡ true) × (all_of is_word_byte (c ∷ w) ≡ true) = and_parts (is_word_byte b) (all_of is_word_byte (c ∷ w)) y in
-    let q : (is_word_byte c ≡ true) × (all_of is_word_byte w ≡ true) = and_parts (is_word_byte c) (all_of is_word_byte w) p.1 in
+    let p : (is_word_byte b ≡ true) × (list_all is_word_byte (c ∷ w) ≡ true) = and_parts (is_word_byte b) (list_all is_word_byte (c ∷ w)) y in
+    let q : (is_word_byte c ≡ true) × (list_all is_word_byte w ≡ true) = and_parts (is_word_byte c) (list_all is_word_byte w) p.1 in
     letter_before b (c ∷ (w ++ text)) (Word (c ∷ w) ∷ ts) p.0 (word_before c w text ts p.1 h) ∙ rw (q.0) refl
 
 -- whether it is a word
 abbrev IsWord : List ℕ → Type 0
 IsWord [] = ⊥
-IsWord (b ∷ w) = all_of is_word_byte (b ∷ w) ≡ true
+IsWord (b ∷ w) = list_all is_word_byte (b ∷ w) ≡ true
 
 -- the same, with what the text begins with
 word_has : (w : List ℕ) (text : List ℕ) (ts : List Token) → IsWord w → Apart text ts → Has (w ++ text) (Word w ∷ ts)
 word_has [] text ts y h = absurd y
-word_has (b ∷ w) text ts y h = record { tokens = word_before b w text ts y h; star = other is_word_byte b 42 (and_parts (is_word_byte b) (all_of is_word_byte w) y).0 refl }
+word_has (b ∷ w) text ts y h = record { tokens = word_before b w text ts y h; star = other is_word_byte b 42 (and_parts (is_word_byte b) (list_all is_word_byte w) y).0 refl }
 
 -- the bytes of a decimal are digits
 digit_of : (n : ℕ) → n < 10 → is_digit (48 + n) ≡ true
 digit_of n l = grind (arith, nat_tests)
 
 -- what holds of all bytes of two lists
-all_append : (p : ℕ → Bool) (a b : List ℕ) → all_of p a ≡ true → all_of p b ≡ true → all_of p (a ++ b) ≡ true
+all_append : (p : ℕ → Bool) (a b : List ℕ) → list_all p a ≡ true → list_all p b ≡ true → list_all p (a ++ b) ≡ true
 all_append p [] b x y = y
 all_append p (c ∷ a) b x y =
-    let q : (p c ≡ true) × (all_of p a ≡ true) = and_parts (p c) (all_of p a) x in
-    and_from (p c) (all_of p (a ++ b)) q.0 (all_append p a b q.1 y)
+    let q : (p c ≡ true) × (list_all p a ≡ true) = and_parts (p c) (list_all p a) x in
+    and_from (p c) (list_all p (a ++ b)) q.0 (all_append p a b q.1 y)
 
 -- a decimal holds digits
-pub decimal_digits : (n : ℕ) → n < 2 ^ 64 → all_of is_digit (decimal n) ≡ true
-decimal_digits = decimal_by_steps (λ n ds. all_of is_digit ds ≡ true)
+pub decimal_digits : (n : ℕ) → n < 2 ^ 64 → list_all is_digit (decimal n) ≡ true
+decimal_digits = decimal_by_steps (λ n ds. list_all is_digit ds ≡ true)
     (λ n l. and_from (is_digit (48 + n)) true (digit_of n l) refl)
     (λ n ds l e. all_append is_digit ds ((48 + n % 10) ∷ []) e (and_from (is_digit (48 + n % 10)) true (digit_of (n % 10) (omega arith)) refl))
 
 -- what holds of all bytes, and what follows from it
-all_more : (p q : ℕ → Bool) → ((b : ℕ) → p b ≡ true → q b ≡ true) → (w : List ℕ) → all_of p w ≡ true → all_of q w ≡ true
+all_more : (p q : ℕ → Bool) → ((b : ℕ) → p b ≡ true → q b ≡ true) → (w : List ℕ) → list_all p w ≡ true → list_all q w ≡ true
 all_more p q h [] y = refl
 all_more p q h (b ∷ w) y =
-    let r : (p b ≡ true) × (all_of p w ≡ true) = and_parts (p b) (all_of p w) y in
-    and_from (q b) (all_of q w) (h b r.0) (all_more p q h w r.1)
+    let r : (p b ≡ true) × (list_all p w ≡ true) = and_parts (p b) (list_all p w) y in
+    and_from (q b) (list_all q w) (h b r.0) (all_more p q h w r.1)
 
 -- a decimal holds bytes of words
-pub decimal_word : (n : ℕ) → n < 2 ^ 64 → all_of is_word_byte (decimal n) ≡ true
+pub decimal_word : (n : ℕ) → n < 2 ^ 64 → list_all is_word_byte (decimal n) ≡ true
 decimal_word n l = all_more is_digit is_word_byte (λ b y. or_right (is_letter b) (is_digit b) y) (decimal n) (decimal_digits n l)
 
 -- bytes of a word, one at least, are a word
-some_word : (w : List ℕ) → 0 < length w → all_of is_word_byte w ≡ true → IsWord w
+some_word : (w : List ℕ) → 0 < length w → list_all is_word_byte w ≡ true → IsWord w
 some_word [] l y = absurd (omega arith)
 some_word (b ∷ w) l y = y
 
@@ -94,11 +97,11 @@ decimal_is_word : (n : ℕ) → n < 2 ^ 64 → IsWord (decimal n)
 decimal_is_word n l = some_word (decimal n) (decimal_nonempty n l) (decimal_word n l)
 
 -- a name holds bytes of words
-pub name_word : (w : List ℕ) → is_text_name w ≡ true → all_of is_word_byte w ≡ true
+pub name_word : (w : List ℕ) → is_text_name w ≡ true → list_all is_word_byte w ≡ true
 name_word w y =
-    let a : ((begins_with_letter w && all_of is_word_byte w && not (bytes_eq w (codes "_"))) ≡ true) × (not (contains w reserved) ≡ true) = and_parts (begins_with_letter w && all_of is_word_byte w && not (bytes_eq w (codes "_"))) (not (contains w reserved)) y in
-    let b : ((begins_with_letter w && all_of is_word_byte w) ≡ true) × (not (bytes_eq w (codes "_")) ≡ true) = and_parts (begins_with_letter w && all_of is_word_byte w) (not (bytes_eq w (codes "_"))) a.0 in
-    (and_parts (begins_with_letter w) (all_of is_word_byte w) b.0).1
+    let a : ((begins_with_letter w && list_all is_word_byte w && not (bytes_eq w (codes "_"))) ≡ true) × (not (list_any (bytes_eq w) reserved) ≡ true) = and_parts (begins_with_letter w && list_all is_word_byte w && not (bytes_eq w (codes "_"))) (not (list_any (bytes_eq w) reserved)) y in
+    let b : ((begins_with_letter w && list_all is_word_byte w) ≡ true) × (not (bytes_eq w (codes "_")) ≡ true) = and_parts (begins_with_letter w && list_all is_word_byte w) (not (bytes_eq w (codes "_"))) a.0 in
+    (and_parts (begins_with_letter w) (list_all is_word_byte w) b.0).1
 
 -- a local is a word
 var_is_word : (x : EmVar) → SpelledVar x → IsWord (var_text x)
@@ -108,10 +111,10 @@ var_is_word x s = all_append is_word_byte x.name (95 ∷ decimal x.number) (name
 module_word : (w : List ℕ) → is_module_name w ≡ true → IsWord w
 module_word [] y = absurd (true≢false (sym y))
 module_word (b ∷ w) y =
-    let u : Bool = begins_upper (b ∷ w) && all_of is_word_byte (b ∷ w) in
-    let a : ((begins_upper (b ∷ w) && all_of is_word_byte (b ∷ w) && leb (length (b ∷ w)) 64) ≡ true) × (not (bytes_eq (b ∷ w) (codes "Hs_prelude")) ≡ true) = and_parts (u && leb (length (b ∷ w)) 64) (not (bytes_eq (b ∷ w) (codes "Hs_prelude"))) y in
-    let c : ((begins_upper (b ∷ w) && all_of is_word_byte (b ∷ w)) ≡ true) × (leb (length (b ∷ w)) 64 ≡ true) = and_parts u (leb (length (b ∷ w)) 64) a.0 in
-    (and_parts (begins_upper (b ∷ w)) (all_of is_word_byte (b ∷ w)) c.0).1
+    let u : Bool = begins_upper (b ∷ w) && list_all is_word_byte (b ∷ w) in
+    let a : ((begins_upper (b ∷ w) && list_all is_word_byte (b ∷ w) && leb (length (b ∷ w)) 64) ≡ true) × (not (bytes_eq (b ∷ w) (codes "Hs_prelude")) ≡ true) = and_parts (u && leb (length (b ∷ w)) 64) (not (bytes_eq (b ∷ w) (codes "Hs_prelude"))) y in
+    let c : ((begins_upper (b ∷ w) && list_all is_word_byte (b ∷ w)) ≡ true) × (leb (length (b ∷ w)) 64 ≡ true) = and_parts u (leb (length (b ∷ w)) 64) a.0 in
+    (and_parts (begins_upper (b ∷ w)) (list_all is_word_byte (b ∷ w)) c.0).1
 
 -- an opening mark
 opened : (text : List ℕ) (ts : List Token) → Has text ts → Apart (40 ∷ text) (Mark 40 ∷ ts)

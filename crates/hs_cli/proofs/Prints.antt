@@ -1,22 +1,22 @@
 -- The layout of the module of a program without assignments is exactly that module, which means what the source's program gives.
-use Rattle.std.proofs.Common.{◌≡◌, ◌↔◌, ℕ, zero, suc, List, [], ◌∷◌, map, true, false, Bool, cond, ◌&&◌, Option, Some, None, option_map, slice_get, bytes_eq, codes, refl, sym, ap, ◌∙◌, subst}
+use Rattle.std.proofs.Common.{◌≡◌, ◌↔◌, ℕ, List, [], ◌∷◌, map, true, false, Bool, cond, ◌&&◌, Option, Some, None, option_map, slice_get, bytes_eq, codes, refl, sym, ap, ◌∙◌, subst}
 use Rattle.std.proofs.lemmas.Option.{slice_get-map}
 use Rattle.std.specs.List.{AllByRecursion}
-use Rattle.hs_tree.specs.Value.{ValType, Value, Panic, FitsAll}
+use Rattle.hs_tree.specs.Value.{Value, FitsAll}
 use Rattle.hs_tree.specs.Plain as tree
 use Rattle.hs_tree.specs.Features.{no_assign}
-use Rattle.hs_tree.specs.Sound.{SoundFunction, Sound}
+use Rattle.hs_tree.specs.Sound.{Sound}
 use Rattle.hs_tree.specs.Call as call
 use Rattle.hs_tree.specs.Call.{Calls, SameResults, Header, header_of}
 use Rattle.hs_tree.specs.Compute.{run_call, Ended}
-use Rattle.hs_cli.specs.Module.{Module, EmDef, EmPar}
+use Rattle.hs_cli.specs.Module.{EmDef, EmPar}
 use Rattle.hs_cli.specs.Spelled.{is_module_name, Spelled}
 use Rattle.hs_cli.specs.Scoped.{Scoped}
-use Rattle.hs_cli.specs.Means.{value, panic, means}
+use Rattle.hs_cli.specs.Means.{means}
 use Rattle.hs_cli.specs.Reads.{Reads}
 use Rattle.hs_cli.specs.Layout.{layout}
 use Rattle.hs_cli.specs.Lower.{lowered_function, lowered}
-use Rattle.hs_cli.specs.Same.{types_of, SameHeader, Shape, Same}
+use Rattle.hs_cli.specs.Same.{types_of, Shape, Same}
 use Rattle.hs_cli.specs.Forms.{Print, print_form, form_of}
 use Rattle.hs_cli.specs.Output.{Prints}
 use Rattle.hs_cli.proofs.Ends as Ends

@@ -1,5 +1,5 @@
 -- The numbers of a function's locals.
-use Rattle.std.specs.Prelude.{ℕ, ◌^◌, ◌<◌, length}
+use Rattle.std.specs.Prelude.{◌^◌, ◌<◌, length}
 use Rattle.hs_tree.specs.Plain.{Function}
 
 -- a local's number is a usize

@@ -1,5 +1,5 @@
 -- The forms of the words, and the lines that are written.
-use Rattle.std.specs.Prelude.{ℕ, List, [], ◌∷◌, ◌++◌, Bool, ◌&&◌, Option, Some, None, bytes_eq, codes, decimal, if◌then◌else◌}
+use Rattle.std.specs.Prelude.{ℕ, List, [], ◌∷◌, ◌++◌, ◌&&◌, Option, Some, None, bytes_eq, codes, decimal, if◌then◌else◌}
 use Rattle.hs_base.specs.declared.place.Broken.{Broken}
 use Rattle.hs_base.specs.Rules.{code_of, text_of}
 use Rattle.hs_cli.specs.Spelled.{is_module_name}

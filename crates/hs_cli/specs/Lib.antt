@@ -1,3 +1,4 @@
+pub mod Bytes
 pub mod Module
 pub mod Spelled
 pub mod Tokens

@@ -1,5 +1,5 @@
 -- The line of a binding in a definition's body.
-use Rattle.std.specs.Prelude.{ℕ, List, [], ◌∷◌, ◌++◌, codes}
+use Rattle.std.specs.Prelude.{ℕ, List, ◌∷◌, ◌++◌, codes}
 use Rattle.hs_tree.specs.Plain as tree
 use Rattle.hs_cli.specs.Reads.{var_text}
 use Rattle.hs_cli.specs.Layout.{em_text}

@@ -1,7 +1,7 @@
 -- What a call writes, by its words and the files.
 use Rattle.std.specs.Prelude.{◌≡◌, ◌⊎◌, ℕ, ◌<◌, ◌≤◌, List, [], length, ⊤, Option, Some, None}
 use Rattle.hs_tree.specs.Plain as tree
-use Rattle.hs_front.specs.Accepted.{Accepted}
+use Rattle.hs_front.specs.Told.{Accepted, Told}
 use Rattle.hs_base.specs.Told.{Entry, bytes_under}
 use Rattle.hs_base.specs.declared.place.Broken.{Broken}
 use Rattle.hs_cli.specs.declared.status.Status.{Status}
@@ -39,11 +39,19 @@ pub record Prints (name : List ℕ) (p : List tree.Function) (text : List ℕ) :
 abbrev pub Unaccepted : List ℕ → Type 0
 Unaccepted bytes = (p : List tree.Function) → Accepted bytes p → ⊥
 
--- what is written for a text: the module of its program, or, where it breaks a rule, a rule and a place
+-- no rule is told
+abbrev pub Untold : List ℕ → Type 0
+Untold bytes = (b : Broken) → Told bytes b → ⊥
+
+-- only this rule is told, at this place
+abbrev pub ToldAlone : List ℕ → Broken → Type 0
+ToldAlone bytes broken = (b : Broken) → Told bytes b → b ≡ broken
+
+-- what is written for a text: the module of its program, or, where it breaks a rule, the told one and its place
 abbrev pub CarriedOut : Print → List ℕ → Written → Type 0
 CarriedOut form bytes written =
-    ((p : List tree.Function) × Accepted bytes p × (written.status ≡ Done) × Prints form.module_name p written.out × (written.err ≡ []))
-    ⊎ ((broken : Broken) × Unaccepted bytes × (written ≡ says Refused [] (refused_line form.file broken)))
+    ((p : List tree.Function) × Accepted bytes p × Untold bytes × (written.status ≡ Done) × Prints form.module_name p written.out × (written.err ≡ []))
+    ⊎ ((broken : Broken) × Told bytes broken × ToldAlone bytes broken × Unaccepted bytes × (written ≡ says Refused [] (refused_line form.file broken)))
 
 -- what is written where the file was read
 abbrev pub Read : Print → List ℕ → Written → Type 0

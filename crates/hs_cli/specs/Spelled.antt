@@ -1,12 +1,14 @@
 -- What a text can write of a module: its names and numbers.
 use Rattle.std.specs.Prelude.{◌≡◌, ◌≢◌, ℕ, ◌^◌, ◌<◌, List, [], ◌∷◌, length, Bool, true, false, ◌&&◌, not, leb, bytes_eq, codes}
-use Rattle.hs_front.specs.Tokens.{is_word_byte}
-use Rattle.hs_front.specs.Surface.{all_of, begins_with_letter, contains, reserved}
+use Rattle.hs_tree.specs.Names.{is_word_byte}
+use Rattle.std.specs.List.{list_all, list_any}
+use Rattle.hs_cli.specs.Bytes.{begins_with_letter}
+use Rattle.hs_tree.specs.Names.{reserved}
 use Rattle.hs_cli.specs.Module.{EmVar, Em, local, number, op, bind, given, Ems, no_ems, em, EmPar, EmDef, Module}
 
 -- whether the text is a name: a letter or `_`, then letters, digits and `_`, but neither `_` alone nor a reserved word
 abbrev pub is_text_name : List ℕ → Bool
-is_text_name w = begins_with_letter w && all_of is_word_byte w && not (bytes_eq w (codes "_")) && not (contains w reserved)
+is_text_name w = begins_with_letter w && list_all is_word_byte w && not (bytes_eq w (codes "_")) && not (list_any (bytes_eq w) reserved)
 
 -- whether the text begins with an upper-case letter
 abbrev pub begins_upper : List ℕ → Bool
@@ -15,7 +17,7 @@ begins_upper (b ∷ bs) = leb 65 b && leb b 90
 
 -- whether a byte is a letter, a digit or `_`, and the text a module's name: at most 64 of them, an upper-case letter first, not `Hs_prelude`
 abbrev pub is_module_name : List ℕ → Bool
-is_module_name w = begins_upper w && all_of is_word_byte w && leb (length w) 64 && not (bytes_eq w (codes "Hs_prelude"))
+is_module_name w = begins_upper w && list_all is_word_byte w && leb (length w) 64 && not (bytes_eq w (codes "Hs_prelude"))
 
 -- a local's name is a name, and its number a usize
 abbrev pub SpelledVar : EmVar → Type 0

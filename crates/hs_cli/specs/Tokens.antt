@@ -1,6 +1,7 @@
 -- The tokens of an emitted text: words and marks, with blanks and comments between them.
 use Rattle.std.specs.Prelude.{ℕ, List, [], ◌∷◌, Bool, false, ◌||◌, ◌&&◌, eqb, Option, Some, None, option_and_then, if◌then◌else◌}
-use Rattle.hs_front.specs.Tokens.{is_blank, is_word_byte, begins_word}
+use Rattle.hs_tree.specs.Names.{is_word_byte}
+use Rattle.hs_cli.specs.Bytes.{is_blank, begins_word}
 
 -- a word is a longest run of letters, digits and `_`; a mark is one byte
 pub data Token : Type 0 where

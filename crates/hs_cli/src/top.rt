@@ -35,7 +35,8 @@ pub fn run<F: Files, O: Sink, E: Sink>(
         → O.accepts out.old (length written.out) × E.accepts err.old (length written.err) }
 
     // Where the words are those of a print, and the file is told within its limit.
-    ensures headline { Headline (form_of (map string_bytes words.now.items)) (F.told files.old) result (O.taken out.old) (O.taken out.new) }
+    ensures headline { Headline (form_of (map string_bytes words.now.items)) (F.told files.old) result
+        (O.taken out.old) (O.taken out.new) (E.taken err.old) (E.taken err.new) }
 
     // With a status of its own the call leaves one whole output on the sinks.
     ensures whole { result ≢ Status.WriteFault → result ≢ Status.NoMemory

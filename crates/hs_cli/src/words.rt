@@ -3,8 +3,8 @@
 ghost use Rattle.std.specs.Prelude.{◌≡◌, ℕ, List, map, string_bytes, option_map};
 ghost use Rattle.hs_cli.specs.Forms.{form_of, Print};
 ghost use Rattle.hs_cli.specs.Spelled.{is_module_name, begins_upper};
-ghost use Rattle.hs_front.specs.Tokens.{is_word_byte};
-ghost use Rattle.hs_front.specs.Surface.{all_of};
+ghost use Rattle.hs_tree.specs.Names.{is_word_byte};
+ghost use Rattle.std.specs.List.{list_all};
 
 /// The longest name of a module, in bytes.
 const NAME_BYTES: usize = 64;
@@ -18,7 +18,7 @@ fn stands_in_word(byte: u8) -> bool
 
 // Whether all bytes are letters, digits or `_`.
 fn all_word_bytes(bytes: &[u8]) -> bool
-    ensures { result ≡ all_of is_word_byte bytes.now }
+    ensures { result ≡ list_all is_word_byte bytes.now }
 {
     for byte in bytes {
         if !stands_in_word(*byte) {

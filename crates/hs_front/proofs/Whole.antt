@@ -1,126 +1,212 @@
--- The steps of the check give just what the definition accepts.
-use Rattle.std.proofs.Common.{◌≡◌, ℕ, ◌≤◌, List, [], ◌∷◌, length, map, ltb, Bool, true, false, Option, Some, None, option_map, option_and_then, Result, Ok, Err, IfOk, if◌then◌else◌, refl, ap, sym, ◌∙◌, arith}
-use Rattle.std.proofs.lemmas.Bool.{ltb-true}
-use Rattle.std.proofs.lemmas.Bool.Decides.{nat_tests}
+-- What is answered of the tokens of a text.
+use Rattle.std.proofs.Common.{◌≡◌, ◌⊎◌, inl, inr, ℕ, List, [], ◌∷◌, ◌++◌, length, Result, Ok, Err, IfOk, refl, sym, ap, ◌∙◌, subst, append_assoc, arith}
+use Rattle.hs_base.specs.declared.place.Broken.{Broken}
 use Rattle.hs_base.specs.declared.place.Stop.{Stop}
 use Rattle.hs_base.specs.declared.place.Stop.TheVariants as stop
 use Rattle.hs_tree.specs.Plain as tree
-use Rattle.hs_front.specs.declared.syntax.File as files
-use Rattle.hs_front.specs.Tokens.{Token, tokens_of}
-use Rattle.hs_front.specs.Surface.{Prim, name, int, Sum, Stmt, bind, assign, File, Derives}
-use Rattle.hs_tree.specs.Of.{stmts_of}
-use Rattle.hs_front.specs.Accepted.{Scope, bound, assignable, with_params, names_bound, distinct, prim_tree, parts_tree, sum_tree, stmt_tree, stmts_tree, block_tree, added, function_of, program_from, Accepted}
-use Rattle.hs_front.specs.Parse.{file, whole, is_end}
-use Rattle.hs_front.specs.Resolve.{prim_exp, parts_exp, sum_exp, stmt_with, stmts_with, block_with, names_let, file_program, Gives}
-use Rattle.hs_front.specs.Checked.{file_of, distinct_program, checked}
-use Rattle.hs_front.specs.Stops.{OnBroken}
-use Rattle.hs_front.proofs.Steps.{both_some, if_gives, some_same}
-use Rattle.hs_front.proofs.Grammar.{prim_val, sum_val}
-use Rattle.hs_front.proofs.Statements.{stmt_val}
-use Rattle.hs_front.proofs.Files.{file_val, file_is, file_some}
+use Rattle.hs_grammar.specs.Derives.{DerivesAs}
+use Rattle.hs_grammar.specs.Break.{Breaks, CannotGoOn}
+use Rattle.hs_grammar.specs.Whole.{ParseBreak}
+use Rattle.hs_lexer.specs.declared.token.Token.{Token}
+use Rattle.hs_lexer.specs.Places.{Placed}
+use Rattle.hs_lexer.specs.Lexes.{Lexes, LexBreak}
+use Rattle.hs_front.specs.declared.symbol.Symbol.{Symbol}
+use Rattle.hs_front.specs.declared.syntax.File.{File}
+use Rattle.hs_front.specs.Symbols.{symbols_of}
+use Rattle.hs_front.specs.Language.{AFile, written}
+use Rattle.hs_front.specs.Marks.{Mark, name_marks, type_marks, IsFirst}
+use Rattle.hs_front.specs.Program.{program_from}
+use Rattle.hs_front.specs.Told.{AcceptedBehind, Accepted, break_at, told_at, FileBreak, ToldBehind, Told}
+use Rattle.hs_front.specs.Walk.{Makes, Breaks as Marked, file_walk, Gives}
+use Rattle.hs_front.specs.Answers.{Only, IsMemory, OnlyBreak, IsBreak, OnBreak}
+use Rattle.hs_front.proofs.Walked.{IsHead, FileAgrees, file_agrees}
+use Rattle.hs_front.proofs.Order.{Spread, marks_ends, file_spread, names_spread, types_spread, head_first, first_head}
 
-and_then_same : {A B : Type 0} → (f g : A → Option B) (o : Option A) → ((x : A) → f x ≡ g x) → option_and_then f o ≡ option_and_then g o
-and_then_same f g None h = refl
-and_then_same f g (Some x) h = h x
+-- ---- a list of tokens breaks the grammar at one place
 
-prim_same : (scope : Scope) (p : Prim) → prim_exp scope (prim_val p) ≡ prim_tree scope p
-prim_same scope (name w) = refl
-prim_same scope (int w) = refl
+-- of two fronts of a list one is a front of the other
+fronts : (a b c d : List Symbol) → a ++ b ≡ c ++ d → ((e : List Symbol) × (c ≡ a ++ e) × (b ≡ e ++ d)) ⊎ ((e : List Symbol) × (a ≡ c ++ e) × (d ≡ e ++ b))
+fronts [] b c d e = inl (c, refl, e)
+fronts (x ∷ a) b [] d e = inr (x ∷ a, refl, sym e)
+fronts (x ∷ a) b (y ∷ c) d e =
+    let one : x ≡ y = cc in
+    let rest : a ++ b ≡ c ++ d = cc in
+    elim (fronts a b c d rest) [
+      | inl (f, i, j) ↦ inl (f, ap (λ z. z ∷ c) (sym one) ∙ ap (λ l. x ∷ l) i, j)
+      | inr (f, i, j) ↦ inr (f, ap (λ z. z ∷ a) one ∙ ap (λ l. y ∷ l) i, j)
+    ]
 
-parts_same : (scope : Scope) (e : tree.Exp) (ps : List Prim) → parts_exp scope e (map prim_val ps) ≡ parts_tree scope e ps
-parts_same scope e [] = refl
-parts_same scope e (p ∷ ps) =
-    ap (option_and_then (λ x. parts_exp scope (added e x) (map prim_val ps))) (prim_same scope p)
-    ∙ and_then_same _ _ (prim_tree scope p) (λ x. parts_same scope (added e x) ps)
+no_further : (w b d : List Symbol) (h : Breaks written AFile w b) (k : Breaks written AFile w d) (e : List Symbol) → k.before ≡ h.before ++ e → b ≡ e ++ d → b ≡ d
+no_further w b d h k [] i j = j
+no_further w b d h k (t ∷ e) i j =
+    let over : CannotGoOn written AFile h.before (t ∷ (e ++ d)) = subst (CannotGoOn written AFile h.before) j h.over in
+    absurd (over (k.begun (h.before ++ t ∷ []) e (i ∙ sym (append_assoc h.before (t ∷ []) e))))
 
-sum_same : (scope : Scope) (s : Sum) → sum_exp scope (sum_val s) ≡ sum_tree scope s
-sum_same scope s =
-    ap (option_and_then (λ x. parts_exp scope x (map prim_val s.more))) (prim_same scope s.first)
-    ∙ and_then_same _ _ (prim_tree scope s.first) (λ x. parts_same scope x s.more)
+breaks_once : (w b d : List Symbol) → Breaks written AFile w b → Breaks written AFile w d → b ≡ d
+breaks_once w b d h k = elim (fronts h.before b k.before d (sym h.whole ∙ k.whole)) [
+  | inl (e, i, j) ↦ no_further w b d h k e i j
+  | inr (e, i, j) ↦ sym (no_further w d b k h e i j)
+]
 
-stmt_same : (scope : Scope) (x : Stmt) → stmt_with scope (stmt_val x) ≡ stmt_tree scope x
-stmt_same scope (bind m w s) = ap (option_map (λ e. (tree.bind (length scope) (tree.plain e), bound m w scope))) (sum_same scope s)
-stmt_same scope (assign w s) =
-    and_then_same _ _ (assignable w scope) (λ k. ap (option_map (λ e. (tree.set k (tree.plain e), scope))) (sum_same scope s))
+place_once : (w : List Symbol) (at to : ℕ) → ParseBreak written AFile w at → ParseBreak written AFile w to → at ≡ to
+place_once w at to (b, h, n) (d, k, m) =
+    let same : length b ≡ length d = ap length (breaks_once w b d h k) in omega (arith, n, m, same)
 
-stmts_same : (scope : Scope) (xs : List Stmt) → stmts_with scope (map stmt_val xs) ≡ stmts_tree scope xs
-stmts_same scope [] = refl
-stmts_same scope (x ∷ xs) =
-    ap (option_and_then (λ y. option_map (λ z. (y.0 ∷ z.0, z.1)) (stmts_with y.1 (map stmt_val xs)))) (stmt_same scope x)
-    ∙ and_then_same _ _ (stmt_tree scope x) (λ y. ap (option_map (λ z. (y.0 ∷ z.0, z.1))) (stmts_same y.1 xs))
+-- ---- the answer for a file
 
-block_same : (scope : Scope) (xs : List Stmt) (s : Sum) → block_with scope (map stmt_val xs) (sum_val s) ≡ block_tree scope xs s
-block_same scope xs s =
-    ap (option_and_then (λ z. option_map (λ e. tree.ends (stmts_of z.0) (tree.plain e)) (sum_exp z.1 (sum_val s)))) (stmts_same scope xs)
-    ∙ and_then_same _ _ (stmts_tree scope xs) (λ z. ap (option_map (λ e. tree.ends (stmts_of z.0) (tree.plain e))) (sum_same z.1 s))
+module _ (text : List ℕ) (tokens : List Token) (placed : Placed 0 (length text) tokens)
+    (unique : (w : List Symbol) (x y : File) → DerivesAs written AFile w x → DerivesAs written AFile w y → x ≡ y)
+    (apart : (w rest : List Symbol) (x : File) → Breaks written AFile w rest → DerivesAs written AFile w x → ⊥) where
+  derived : File → Type 0
+  derived f = DerivesAs written AFile (symbols_of text tokens) f
 
-names_same : (xs : List Stmt) → names_let (map stmt_val xs) ≡ names_bound xs
-names_same [] = refl
-names_same (bind m w s ∷ xs) = ap (λ ws. w ∷ ws) (names_same xs)
-names_same (assign w s ∷ xs) = names_same xs
+  names_apart : (f : File) → DerivesAs written AFile (symbols_of text tokens) f → Spread 0 (marks_ends (name_marks text f)) (length text)
+  names_apart f d = names_spread text f (length text) (file_spread text tokens (length text) f placed d)
 
-program_same : (f : File) → file_program (file_val f) ≡ program_from f
-program_same f =
-    ap (λ ws. option_map (λ b. function_of f.name f.params ws b ∷ []) (block_with (with_params f.params []) (map stmt_val f.stmts) (sum_val f.sum))) (names_same f.stmts)
-    ∙ ap (option_map (λ b. function_of f.name f.params (names_bound f.stmts) b ∷ [])) (block_same (with_params f.params []) f.stmts f.sum)
+  types_apart : (f : File) → DerivesAs written AFile (symbols_of text tokens) f → Spread 0 (marks_ends (type_marks text f)) (length text)
+  types_apart f d = types_spread text f (length text) (file_spread text tokens (length text) f placed d)
 
-else_gives : {B : Type 0} → (b : Bool) (o : Option B) (y : B) → (if b then None else o) ≡ Some y → (b ≡ false) × (o ≡ Some y)
-else_gives true o y h = cc
-else_gives false o y h = (refl, h)
+  -- the mark that the steps give is the one that is told
+  mark_told : (f : File) (m : Mark) → DerivesAs written AFile (symbols_of text tokens) f → file_walk text f ≡ Marked m → FileBreak text f (told_at text m)
+  mark_told f m d e = (
+    m,
+    refl,
+    elim (subst (FileAgrees text f) e (file_agrees text f)) [
+      | inl h ↦ inl (head_first m h.0 (name_marks text f) (length text) h.1 (names_apart f d))
+      | inr h ↦ inr (h.0, head_first m h.1.0 (type_marks text f) (length text) h.1.1 (types_apart f d))
+    ],
+  )
 
-ended : (ts : List Token) → is_end ts ≡ true → ts ≡ []
-ended [] h = refl
-ended (t ∷ ts) h = cc
+  same_head : (m n : Mark) (ms : List Mark) → IsHead m ms → IsHead n ms → m ≡ n
+  same_head m n ms (r, e) (q, f) = let both : m ∷ r ≡ n ∷ q = sym e ∙ f in cc
 
-not_longer : (n m : ℕ) → ltb n m ≡ false → m ≤ n
-not_longer n m h = grind (arith, nat_tests)
+  no_head : (m : Mark) (ms : List Mark) → ms ≡ [] → IsHead m ms → ⊥
+  no_head m ms e (r, f) = let both : [] ≡ m ∷ r = sym e ∙ f in cc
 
-is_not_longer : (n m : ℕ) → m ≤ n → ltb n m ≡ false
-is_not_longer n m h =
-    let go : (b : Bool) → ltb n m ≡ b → ltb n m ≡ false =
-    elim [ true ↦ λ e. absurd (omega (arith, ltb-true n m e)) | false ↦ λ e. e ] in
-    go (ltb n m) refl
+  -- and no other is
+  mark_only : (f : File) (m n : Mark) → DerivesAs written AFile (symbols_of text tokens) f → FileAgrees text f (Marked m)
+      → IsFirst n (name_marks text f) ⊎ ((name_marks text f ≡ []) × IsFirst n (type_marks text f)) → m ≡ n
+  mark_only f m n d (inl h) (inl i) = same_head m n (name_marks text f) h (first_head n (name_marks text f) (length text) (names_apart f d) i)
+  mark_only f m n d (inl h) (inr (e, i)) = absurd (no_head m (name_marks text f) e h)
+  mark_only f m n d (inr (e, h)) (inl i) = absurd (no_head n (name_marks text f) e (first_head n (name_marks text f) (length text) (names_apart f d) i))
+  mark_only f m n d (inr (e, h)) (inr (g, i)) = same_head m n (type_marks text f) h (first_head n (type_marks text f) (length text) (types_apart f d) i)
 
--- a file of the grammar whose tokens the text has
-abbrev Says : List ℕ → files.File → Type 0
-Says bytes v = (f : File) × ((ts : List Token) × (tokens_of bytes ≡ Some ts) × Derives ts f) × (file_val f ≡ v)
+  no_mark : (f : File) (p : List tree.Function) (n : Mark) → FileAgrees text f (Makes p) → IsFirst n (name_marks text f) ⊎ ((name_marks text f ≡ []) × IsFirst n (type_marks text f)) → ⊥
+  no_mark f p n (e, g, h) (inl i) = (subst (IsFirst n) e i).0
+  no_mark f p n (e, g, h) (inr (k, i)) = (subst (IsFirst n) g i).0
 
-says : (bytes : List ℕ) (v : files.File) → file_of bytes ≡ Some v → Says bytes v
-says bytes v h =
-    let a = both_some (tokens_of bytes) whole v h in
-    let b = both_some (file a.0) _ v a.2 in
-    let c = if_gives (is_end b.0.1) _ v b.2 in
-    let e = some_same b.0.0 v c.1 in
-    let g = file_some a.0 b.0.0 (b.1 ∙ ap (λ us. Some (b.0.0, us)) (ended b.0.1 c.0)) in
-    (g.0, (a.0, a.1, record { tokens = g.1; forms = g.2 }), g.3 ∙ e)
+  module _ {A : Type 0} (of : A → List tree.Function) (f : File) (d : DerivesAs written AFile (symbols_of text tokens) f) where
+    pub file_accepted : (r : Result A Stop) → Gives text (file_walk text f) of r → IfOk r (λ p. AcceptedBehind text tokens (of p))
+    file_accepted (Ok x) g = let made = subst (FileAgrees text f) g (file_agrees text f) in (f, d, made.0, made.1, made.2)
+    file_accepted (Err e) g = tt
 
-pub accepted : (bytes : List ℕ) (p : List tree.Function) → checked bytes ≡ Some p → Accepted bytes p
-accepted bytes p h =
-    let a = else_gives (ltb 262144 (length bytes)) _ p h in
-    let b = both_some (file_of bytes) distinct_program p a.1 in
-    let c = if_gives (distinct b.0.params) _ p b.2 in
-    let s = says bytes b.0 b.1 in
-    record {
-      size = not_longer 262144 (length bytes) a.0;
-      file = s.0;
-      derived = s.1;
-      once = ap (λ v. distinct v.params) s.2 ∙ c.0;
-      known = sym (program_same s.0) ∙ ap file_program s.2 ∙ c.1;
-    }
+    pub file_told : (r : Result A Stop) → Gives text (file_walk text f) of r → OnBreak r (ToldBehind text tokens)
+    file_told (Ok x) g = tt
+    file_told (Err (stop.Broken b)) (m, e, i) = inr (f, d, subst (FileBreak text f) (sym i) (mark_told f m d e))
+    file_told (Err stop.NoMemory) g = tt
 
-file_of_is : (bytes : List ℕ) (ts : List Token) (f : File) → tokens_of bytes ≡ Some ts → Derives ts f → file_of bytes ≡ Some (file_val f)
-file_of_is bytes ts f h d = rw (h, d.tokens, file_is f d.forms) refl
+    pub file_only : (r : Result A Stop) → Gives text (file_walk text f) of r → (p : List tree.Function) → AcceptedBehind text tokens p → Only of p r
+    file_only r g p (h, c, n, t, e) = go r g
+      where
+        go : (r : Result A Stop) → Gives text (file_walk text f) of r → Only of p r
+        go (Ok x) g = let made = subst (FileAgrees text f) g (file_agrees text f) in made.2 ∙ (ap (program_from text) (unique (symbols_of text tokens) f h d c) ∙ sym e)
+        go (Err (stop.Broken b)) (m, k, i) =
+            let same : f ≡ h = unique (symbols_of text tokens) f h d c in
+            elim (subst (FileAgrees text f) k (file_agrees text f)) [
+              | inl q ↦ no_head m (name_marks text f) (ap (name_marks text) same ∙ n) q
+              | inr q ↦ no_head m (type_marks text f) (ap (type_marks text) same ∙ t) q.1
+            ]
+        go (Err stop.NoMemory) g = tt
 
-pub accepts : (bytes : List ℕ) (p : List tree.Function) → Accepted bytes p → checked bytes ≡ Some p
-accepts bytes p a =
-    rw (is_not_longer 262144 (length bytes) a.size, file_of_is bytes a.derived.0 a.file a.derived.1 a.derived.2, a.once)
-    (program_same a.file ∙ a.known)
+    pub file_only_break : (r : Result A Stop) → Gives text (file_walk text f) of r → (b : Broken) → ToldBehind text tokens b → OnlyBreak b r
+    file_only_break r g b (inl (at, (rest, h, n), i)) = absurd (apart (symbols_of text tokens) rest f h d)
+    file_only_break r g b (inr (h, c, (m, i, first))) = go r g
+      where
+        go : (r : Result A Stop) → Gives text (file_walk text f) of r → OnlyBreak b r
+        go (Ok x) g =
+            no_mark f (of x) m (subst (FileAgrees text f) g (file_agrees text f))
+            (subst (λ (q : File). IsFirst m (name_marks text q) ⊎ ((name_marks text q ≡ []) × IsFirst m (type_marks text q))) (sym (unique (symbols_of text tokens) f h d c)) first)
+        go (Err (stop.Broken e)) (l, k, j) =
+            let one : l ≡ m = mark_only f l m d (subst (FileAgrees text f) k (file_agrees text f))
+            (subst (λ (q : File). IsFirst m (name_marks text q) ⊎ ((name_marks text q ≡ []) × IsFirst m (type_marks text q))) (sym (unique (symbols_of text tokens) f h d c)) first) in
+            j ∙ (ap (told_at text) one ∙ sym i)
+        go (Err stop.NoMemory) g = tt
 
-pub accepted_if : {A : Type 0} → (bytes : List ℕ) (f : A → List tree.Function) (r : Result A Stop) → Gives (checked bytes) f r → IfOk r (λ p. Accepted bytes (f p))
-accepted_if bytes f (Ok x) h = accepted bytes (f x) h
-accepted_if bytes f (Err e) h = tt
+  -- ---- the answer where the tokens break the grammar
 
-pub refused_if : {A : Type 0} → (bytes : List ℕ) (f : A → List tree.Function) (r : Result A Stop) → Gives (checked bytes) f r → OnBroken r ((p : List tree.Function) → Accepted bytes p → ⊥)
-refused_if bytes f (Ok x) h = tt
-refused_if bytes f (Err (stop.Broken b)) h = λ p a. let e = accepts bytes p a in cc
-refused_if bytes f (Err stop.NoMemory) h = tt
+  pub break_told : (at : ℕ) → ParseBreak written AFile (symbols_of text tokens) at → ToldBehind text tokens (break_at text tokens at)
+  break_told at h = inl (at, h, refl)
+
+  pub break_accepts_none : (at : ℕ) → ParseBreak written AFile (symbols_of text tokens) at → (p : List tree.Function) → AcceptedBehind text tokens p → ⊥
+  break_accepts_none at (rest, h, n) p (f, d, _, _, _) = apart (symbols_of text tokens) rest f h d
+
+  pub break_only : (at : ℕ) → ParseBreak written AFile (symbols_of text tokens) at → (b : Broken) → ToldBehind text tokens b → break_at text tokens at ≡ b
+  break_only at h b (inl (to, k, i)) = ap (break_at text tokens) (place_once (symbols_of text tokens) at to h k) ∙ sym i
+  break_only at (rest, h, n) b (inr (f, d, m)) = absurd (apart (symbols_of text tokens) rest f h d)
+
+-- ---- the answer for a text
+
+module _ (text : List ℕ) (one : (ts us : List Token) → Lexes text ts → Lexes text us → ts ≡ us)
+    (lexed_apart : (ts : List Token) (b : Broken) → Lexes text ts → LexBreak text b → ⊥)
+    (unique : (w : List Symbol) (x y : File) → DerivesAs written AFile w x → DerivesAs written AFile w y → x ≡ y)
+    (apart : (w rest : List Symbol) (x : File) → Breaks written AFile w rest → DerivesAs written AFile w x → ⊥) where
+  -- no text has two programs
+  pub accepted_once : (p q : List tree.Function) → Accepted text p → Accepted text q → p ≡ q
+  accepted_once p q (ts, l, (f, d, n, t, e)) (us, k, (g, c, m, s, i)) =
+      let same : us ≡ ts = one us ts k l in
+      e ∙ (ap (program_from text) (unique (symbols_of text ts) f g d (subst (λ vs. DerivesAs written AFile (symbols_of text vs) g) same c)) ∙ sym i)
+
+  first_apart : (f : File) (m : Mark) → name_marks text f ≡ [] → type_marks text f ≡ [] → IsFirst m (name_marks text f) ⊎ ((name_marks text f ≡ []) × IsFirst m (type_marks text f)) → ⊥
+  first_apart f m n t (inl i) = (subst (IsFirst m) n i).0
+  first_apart f m n t (inr i) = (subst (IsFirst m) t i.1).0
+
+  -- no rule is told of a text that is accepted
+  pub accepted_apart : (p : List tree.Function) (b : Broken) → Accepted text p → Told text b → ⊥
+  accepted_apart p b (ts, l, (f, d, n, t, e)) (inl h) = lexed_apart ts b l h
+  accepted_apart p b (ts, l, (f, d, n, t, e)) (inr (us, k, inl (at, (rest, h, r), i))) =
+      apart (symbols_of text ts) rest f (subst (λ vs. Breaks written AFile (symbols_of text vs) rest) (one us ts k l) h) d
+  accepted_apart p b (ts, l, (f, d, n, t, e)) (inr (us, k, inr (g, c, (m, i, first)))) =
+      let same : g ≡ f = unique (symbols_of text ts) g f (subst (λ vs. DerivesAs written AFile (symbols_of text vs) g) (one us ts k l) c) d in
+      first_apart f m n t (subst (λ (q : File). IsFirst m (name_marks text q) ⊎ ((name_marks text q ≡ []) × IsFirst m (type_marks text q))) same first)
+
+  module _ {A : Type 0} (of : A → List tree.Function) (ts : List Token) (l : Lexes text ts) where
+    pub behind_accepted : (r : Result A Stop) → IfOk r (λ p. AcceptedBehind text ts (of p)) → IfOk r (λ p. Accepted text (of p))
+    behind_accepted (Ok x) h = (ts, l, h)
+    behind_accepted (Err e) h = tt
+
+    pub behind_told : (r : Result A Stop) → OnBreak r (ToldBehind text ts) → OnBreak r (Told text)
+    behind_told (Ok x) h = tt
+    behind_told (Err (stop.Broken b)) h = inr (ts, l, h)
+    behind_told (Err stop.NoMemory) h = tt
+
+    pub behind_only : (r : Result A Stop) → ((p : List tree.Function) → AcceptedBehind text ts p → Only of p r) → (p : List tree.Function) → Accepted text p → Only of p r
+    behind_only r h p (us, k, a) = h p (subst (λ vs. AcceptedBehind text vs p) (one us ts k l) a)
+
+    pub behind_only_break : (r : Result A Stop) → ((b : Broken) → ToldBehind text ts b → OnlyBreak b r) → (b : Broken) → Told text b → OnlyBreak b r
+    behind_only_break r h b (inl k) = absurd (lexed_apart ts b l k)
+    behind_only_break r h b (inr (us, k, a)) = h b (subst (λ vs. ToldBehind text vs b) (one us ts k l) a)
+
+-- ---- the answer for a text without tokens
+
+-- what the lexer answered
+abbrev Lexed : Type 0
+Lexed = Result (List Token) Stop
+
+abbrev lexed_ok : List Token → Lexed
+lexed_ok ts = Ok ts
+
+abbrev lexed_err : Stop → Lexed
+lexed_err s = Err s
+
+module _ (text : List ℕ) where
+  pub stop_only : (s : Stop) → ((ts : List Token) → Lexes text ts → (lexed_err s ≡ lexed_ok ts) ⊎ (lexed_err s ≡ lexed_err stop.NoMemory))
+      → (p : List tree.Function) → Accepted text p → IsMemory s
+  stop_only stop.NoMemory h p a = tt
+  stop_only (stop.Broken b) h p (ts, l, a) = elim (h ts l) [ inl e ↦ cc | inr e ↦ cc ]
+
+  pub stop_only_break : (s : Stop) → ((ts : List Token) → Lexes text ts → (lexed_err s ≡ lexed_ok ts) ⊎ (lexed_err s ≡ lexed_err stop.NoMemory))
+      → ((b : Broken) → LexBreak text b → (lexed_err s ≡ lexed_err (stop.Broken b)) ⊎ (lexed_err s ≡ lexed_err stop.NoMemory))
+      → (b : Broken) → Told text b → IsBreak b s
+  stop_only_break stop.NoMemory h k b t = tt
+  stop_only_break (stop.Broken c) h k b (inl l) = elim (k b l) [ inl e ↦ cc | inr e ↦ absurd (cc) ]
+  stop_only_break (stop.Broken c) h k b (inr (ts, l, t)) = elim (h ts l) [ inl e ↦ absurd (cc) | inr e ↦ absurd (cc) ]

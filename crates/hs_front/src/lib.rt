@@ -1,13 +1,12 @@
-//! Which texts are accepted, and the program that each gives.
+//! Which texts are accepted, the program that each gives, and the rule that is told of any other.
 #![tactic(auto)]
 
 pub mod check;
-mod cursor;
-mod lex;
 mod parse;
-mod place;
 mod resolve;
 mod scope;
+mod symbol;
 mod syntax;
-mod token;
+#[cfg(test)]
+mod tests;
 mod words;

@@ -1,207 +1,317 @@
-//! What a file says: one function per rule of the grammar.
+//! The file that tokens say: one function for each form of the grammar.
 
-ghost use Rattle.std.specs.Prelude.{◌≡◌, Some, None, if◌then◌else◌};
-ghost use Rattle.hs_front.specs.Parse.{value, mutability, binding, assignment, stmt, at_stmt, many, param, params, sum, listed, behind_marks, past_public, title, past_type, file, prim_in, one, Reads, Passes};
+ghost use Rattle.std.specs.Prelude.{◌≡◌, ◌∷◌, List};
+ghost use Rattle.hs_grammar.specs.Parser.{parse_by, giving};
+ghost use Rattle.hs_grammar.specs.Reads.{Reads};
+ghost use Rattle.hs_grammar.specs.Derives.{DerivesAs};
+ghost use Rattle.hs_grammar.specs.Whole.{Parses, Only};
+ghost use Rattle.hs_grammar.specs.Kinds.{starts};
+ghost use Rattle.hs_grammar.specs.Lookahead.{begin};
+ghost use Rattle.hs_front.specs.Lexis.{lexis};
+ghost use Rattle.hs_front.specs.Language.{up_to, AFile, written, local, prim, addend, sum, param, next_param, params, assigned, mutable, binding, visibility, title, opening};
+ghost use Rattle.hs_front.specs.Reading.{grammar, tables, more, behind, step, body_read, file_read, reads};
 
-use crate::cursor::Tokens;
-use crate::syntax::{File, Prim, Stmt, Sum};
-use crate::token::Word;
-use hs_base::place::Stop;
+use crate::symbol::{Kind, Symbol};
+use crate::syntax::{Body, File, Prim, Span, Stmt, Sum};
+use hs_grammar::cursor::Tokens;
+use hs_grammar::error::{ParseError, Refusal};
+use hs_grammar::grammar::{Grammar, exact};
+use hs_grammar::whole::finish;
 use sqlite_items::Items;
 use std::alloc::Global;
 
-/// The most parameters that a function has.
-const MAX_PARAMS: usize = 32;
+/// The grammar of the language.
+pub struct Language;
 
-/// The most parts that follow the first of a sum.
-const MAX_MORE_PARTS: usize = 61;
+impl Grammar for Language {
+    ghost use Rattle.hs_front.specs.Lexis as l;
+    ghost use Rattle.hs_front.specs.Language as w;
+    ghost use Rattle.hs_front.specs.Reading as r;
+    ghost use Rattle.hs_front.specs.Lookahead as f;
+    ghost use Rattle.hs_front.specs.Agree as a;
 
-/// The most statements that a function has.
-const MAX_STATEMENTS: usize = 1024;
+    ghost lexis = { l.lexis };
 
-/// Par ::= NAME ':' 'u32'
-#[tactic(auto, unfolding(crate::specs::Parse::param))]
-fn param<'a>(tokens: &mut Tokens<'_, 'a>) -> Result<Word<'a>, Stop>
-    ensures { Reads (param tokens.old) result tokens.new }
-{
-    let name = tokens.name()?;
-    tokens.mark(b':')?;
-    tokens.word(b"u32")?;
-    Ok(name)
+    ghost tells = { l.tells };
+
+    ghost rules = { w.rules };
+
+    ghost written = { w.written };
+
+    ghost parsed = { r.grammar };
+
+    ghost agree = { a.agree };
+
+    ghost tables = { r.tables };
+
+    ghost fits = { f.fits };
 }
 
-/// Par (',' Par)*
-fn some_params<'a>(alloc: Global, tokens: &mut Tokens<'_, 'a>) -> Result<Items<Word<'a>>, Stop>
-    ensures { Reads (listed 44 param 31 tokens.old) result tokens.new }
+/// The most parameters behind the first.
+const MORE_PARAMETERS: usize = 31;
+
+/// The most `+` of a sum.
+const MOST_PLUS: usize = 61;
+
+/// The most statements of a function.
+const MOST_STATEMENTS: usize = 1024;
+
+/// NAME, which for a local may be a built-in one
+#[tactic(auto, unfolding(crate::specs::Language::local))]
+fn local(tokens: &mut Tokens<'_, Symbol>) -> Result<Span, ParseError>
+    ensures { Reads (reads local tokens.old) result tokens.new }
 {
-    let mut params = Items::new(alloc);
-    params.push(param(tokens)?)?;
-    while tokens.eat_mark(b',') {
-        if params.len() == MAX_PARAMS {
-            return Err(tokens.unexpected());
-        }
-        params.push(param(tokens)?)?;
-    }
-    Ok(params)
+    let name = tokens.expect_any(&[Kind::Name, Kind::BuiltIn, Kind::U32])?;
+    Ok(name.span)
 }
 
-/// (Par (',' Par)*)? ')'
-#[tactic(auto, unfolding(crate::specs::Parse::params))]
-fn params<'a>(alloc: Global, tokens: &mut Tokens<'_, 'a>) -> Result<Items<Word<'a>>, Stop>
-    ensures { Reads (params tokens.old) result tokens.new }
+/// Whether the next token is the name of a local.
+#[tactic(auto, unfolding(crate::specs::Language::local))]
+fn is_at_local(tokens: &Tokens<'_, Symbol>) -> bool
+    ensures { result ≡ starts lexis (begin tables local) tokens.now }
 {
-    if tokens.eat_mark(b')') {
-        return Ok(Items::new(alloc));
+    tokens.is_at_any(&[Kind::Name, Kind::BuiltIn, Kind::U32])
+}
+
+/// Prim ::= NAME | INT
+#[tactic(auto, unfolding(crate::specs::Language::prim, crate::specs::Language::local))]
+fn prim(tokens: &mut Tokens<'_, Symbol>) -> Result<Prim, ParseError>
+    ensures { Reads (reads prim tokens.old) result tokens.new }
+{
+    if is_at_local(tokens) {
+        return Ok(Prim::Name(local(tokens)?));
     }
-    let params = some_params(alloc, tokens)?;
-    tokens.mark(b')')?;
-    Ok(params)
+    Ok(Prim::Int(tokens.expect(Kind::Number)?.value))
+}
+
+/// '+' Prim
+#[tactic(auto, unfolding(crate::specs::Language::addend))]
+fn addend(tokens: &mut Tokens<'_, Symbol>) -> Result<Prim, ParseError>
+    ensures { Reads (reads addend tokens.old) result tokens.new }
+{
+    tokens.expect(Kind::Plus)?;
+    prim(tokens)
 }
 
 /// ('+' Prim)*
-fn more_parts<'a>(alloc: Global, tokens: &mut Tokens<'_, 'a>) -> Result<Items<Prim<'a>>, Stop>
-    ensures { Reads (behind_marks 43 (one prim_in) 61 tokens.old) result tokens.new }
+fn more(alloc: Global, tokens: &mut Tokens<'_, Symbol>) -> Result<Items<Prim>, ParseError>
+    ensures { Reads (reads more tokens.old) result tokens.new }
 {
     let mut parts = Items::new(alloc);
-    while tokens.eat_mark(b'+') {
-        if parts.len() == MAX_MORE_PARTS {
-            return Err(tokens.unexpected());
-        }
-        parts.push(tokens.prim()?)?;
+    while parts.len() < MOST_PLUS && tokens.is_at(Kind::Plus) {
+        parts.push(addend(tokens)?)?;
     }
     Ok(parts)
 }
 
 /// Sum ::= Prim ('+' Prim)*
-#[tactic(auto, unfolding(crate::specs::Parse::sum))]
-fn sum<'a>(alloc: Global, tokens: &mut Tokens<'_, 'a>) -> Result<Sum<'a>, Stop>
-    ensures { Reads (sum tokens.old) result tokens.new }
+#[tactic(auto, unfolding(crate::specs::Language::sum, crate::specs::Reading::more))]
+fn sum(alloc: Global, tokens: &mut Tokens<'_, Symbol>) -> Result<Sum, ParseError>
+    ensures { Reads (reads sum tokens.old) result tokens.new }
 {
-    let first = tokens.prim()?;
-    let more = more_parts(alloc, tokens)?;
+    let first = prim(tokens)?;
+    let more = more(alloc, tokens)?;
     Ok(Sum { first, more })
 }
 
-/// '=' Sum ';'
-#[tactic(auto, unfolding(crate::specs::Parse::value))]
-fn value<'a>(alloc: Global, tokens: &mut Tokens<'_, 'a>) -> Result<Sum<'a>, Stop>
-    ensures { Reads (value tokens.old) result tokens.new }
+/// Param ::= NAME ':' 'u32'
+#[tactic(auto, unfolding(crate::specs::Language::param))]
+fn param(tokens: &mut Tokens<'_, Symbol>) -> Result<Span, ParseError>
+    ensures { Reads (reads param tokens.old) result tokens.new }
 {
-    tokens.mark(b'=')?;
+    let name = local(tokens)?;
+    tokens.expect(Kind::Colon)?;
+    tokens.expect(Kind::U32)?;
+    Ok(name)
+}
+
+/// ',' Param
+#[tactic(auto, unfolding(crate::specs::Language::next_param))]
+fn next_param(tokens: &mut Tokens<'_, Symbol>) -> Result<Span, ParseError>
+    ensures { Reads (reads next_param tokens.old) result tokens.new }
+{
+    tokens.expect(Kind::Comma)?;
+    param(tokens)
+}
+
+/// (',' Param)*, behind a first parameter
+fn next_params(
+    alloc: Global,
+    tokens: &mut Tokens<'_, Symbol>,
+    first: Span,
+) -> Result<Items<Span>, ParseError>
+    ensures { Reads (giving (λ ps. first ∷ ps) (reads (up_to 31 next_param) tokens.old)) result tokens.new }
+{
+    let mut params = Items::new(alloc);
+    params.push(first)?;
+    while params.len() <= MORE_PARAMETERS && tokens.is_at(Kind::Comma) {
+        params.push(next_param(tokens)?)?;
+    }
+    Ok(params)
+}
+
+/// (Param (',' Param)*)?
+#[tactic(auto, unfolding(crate::specs::Language::params, crate::specs::Language::param, crate::specs::Language::local))]
+fn params(alloc: Global, tokens: &mut Tokens<'_, Symbol>) -> Result<Items<Span>, ParseError>
+    ensures { Reads (reads params tokens.old) result tokens.new }
+{
+    if !is_at_local(tokens) {
+        return Ok(Items::new(alloc));
+    }
+    let first = param(tokens)?;
+    next_params(alloc, tokens, first)
+}
+
+/// '=' Sum ';'
+#[tactic(auto, unfolding(crate::specs::Language::assigned))]
+fn assigned(alloc: Global, tokens: &mut Tokens<'_, Symbol>) -> Result<Sum, ParseError>
+    ensures { Reads (reads assigned tokens.old) result tokens.new }
+{
+    tokens.expect(Kind::Equals)?;
     let value = sum(alloc, tokens)?;
-    tokens.mark(b';')?;
+    tokens.expect(Kind::Semicolon)?;
     Ok(value)
 }
 
 /// 'mut'?
-#[tactic(auto, unfolding(crate::specs::Parse::mutability))]
-fn mutability(tokens: &mut Tokens<'_, '_>) -> bool
-    ensures answer { result ≡ (mutability tokens.old).0 }
-    ensures left { tokens.new ≡ (mutability tokens.old).1 }
+#[tactic(auto, unfolding(crate::specs::Language::mutable))]
+fn mutable(tokens: &mut Tokens<'_, Symbol>) -> Result<bool, ParseError>
+    ensures { Reads (reads mutable tokens.old) result tokens.new }
 {
-    tokens.eat_word(b"mut")
+    if !tokens.is_at(Kind::Mut) {
+        return Ok(false);
+    }
+    tokens.expect(Kind::Mut)?;
+    Ok(true)
 }
 
 /// 'let' 'mut'? NAME ':' 'u32' '=' Sum ';'
-#[tactic(auto, unfolding(crate::specs::Parse::binding))]
-fn binding<'a>(alloc: Global, tokens: &mut Tokens<'_, 'a>) -> Result<Stmt<'a>, Stop>
-    ensures { Reads (binding tokens.old) result tokens.new }
+#[tactic(auto, unfolding(crate::specs::Language::binding))]
+fn binding(alloc: Global, tokens: &mut Tokens<'_, Symbol>) -> Result<Stmt, ParseError>
+    ensures { Reads (reads binding tokens.old) result tokens.new }
 {
-    tokens.word(b"let")?;
-    let mutable = mutability(tokens);
+    tokens.expect(Kind::Let)?;
+    let mutable = mutable(tokens)?;
     let name = param(tokens)?;
-    let value = value(alloc, tokens)?;
+    let value = assigned(alloc, tokens)?;
     Ok(Stmt::Let(mutable, name, value))
 }
 
-/// NAME '=' Sum ';'
-#[tactic(auto, unfolding(crate::specs::Parse::assignment))]
-fn assignment<'a>(alloc: Global, tokens: &mut Tokens<'_, 'a>) -> Result<Stmt<'a>, Stop>
-    ensures { Reads (assignment tokens.old) result tokens.new }
-{
-    let name = tokens.name()?;
-    let value = value(alloc, tokens)?;
-    Ok(Stmt::Set(name, value))
+/// What a body goes on with.
+#[derive(Drop)]
+pub enum Part {
+    /// A statement.
+    Statement(Stmt),
+    /// The value, with which the body ends.
+    Value(Sum),
 }
 
-/// Stmt ::= 'let' 'mut'? NAME ':' 'u32' '=' Sum ';' | NAME '=' Sum ';'
-#[tactic(auto, unfolding(crate::specs::Parse::stmt))]
-fn statement<'a>(alloc: Global, tokens: &mut Tokens<'_, 'a>) -> Result<Stmt<'a>, Stop>
-    ensures { Reads (stmt tokens.old) result tokens.new }
+/// What follows a name: '=' Sum ';' | ('+' Prim)*
+#[tactic(auto, unfolding(crate::specs::Reading::behind, crate::specs::Language::assigned))]
+fn behind(alloc: Global, tokens: &mut Tokens<'_, Symbol>, name: Span) -> Result<Part, ParseError>
+    ensures { Reads (giving (λ f. f name) (reads behind tokens.old)) result tokens.new }
 {
-    if tokens.is_at_word(b"let") {
-        binding(alloc, tokens)
-    } else {
-        assignment(alloc, tokens)
+    if tokens.is_at(Kind::Equals) {
+        return Ok(Part::Statement(Stmt::Set(name, assigned(alloc, tokens)?)));
     }
+    let first = Prim::Name(name);
+    let more = more(alloc, tokens)?;
+    Ok(Part::Value(Sum { first, more }))
 }
 
-/// Whether a statement is next.
-fn is_at_statement(tokens: &Tokens<'_, '_>) -> bool
-    ensures { at_stmt tokens.now ≡ (if result then Some tokens.now else None) }
+/// Stmt | Sum
+#[tactic(auto, unfolding(crate::specs::Reading::step, crate::specs::Language::local, crate::specs::Language::binding))]
+fn step(alloc: Global, tokens: &mut Tokens<'_, Symbol>) -> Result<Part, ParseError>
+    ensures { Reads (reads step tokens.old) result tokens.new }
 {
-    tokens.is_at_word(b"let") || tokens.is_at_word_and_mark(b'=')
+    if tokens.is_at(Kind::Let) {
+        return Ok(Part::Statement(binding(alloc, tokens)?));
+    }
+    if is_at_local(tokens) {
+        let name = local(tokens)?;
+        return behind(alloc, tokens, name);
+    }
+    let first = Prim::Int(tokens.expect(Kind::Number)?.value);
+    let more = more(alloc, tokens)?;
+    Ok(Part::Value(Sum { first, more }))
 }
 
-/// Stmt*
-fn statements<'a>(alloc: Global, tokens: &mut Tokens<'_, 'a>) -> Result<Items<Stmt<'a>>, Stop>
-    ensures { Reads (many at_stmt stmt 1024 tokens.old) result tokens.new }
+/// Body ::= Stmt Body | Sum
+fn body(alloc: Global, tokens: &mut Tokens<'_, Symbol>) -> Result<Body, ParseError>
+    ensures { Reads (reads (body_read 1024) tokens.old) result tokens.new }
 {
     let mut statements = Items::new(alloc);
-    while is_at_statement(tokens) {
-        if statements.len() == MAX_STATEMENTS {
-            return Err(tokens.unexpected());
+    while statements.len() < MOST_STATEMENTS {
+        match step(alloc, tokens)? {
+            Part::Statement(statement) => statements.push(statement)?,
+            Part::Value(value) => return Ok(Body { statements, value }),
         }
-        statements.push(statement(alloc, tokens)?)?;
     }
-    Ok(statements)
+    let value = sum(alloc, tokens)?;
+    Ok(Body { statements, value })
 }
 
 /// 'pub'?
-#[tactic(auto, unfolding(crate::specs::Parse::past_public))]
-fn visibility(tokens: &mut Tokens<'_, '_>)
-    ensures { tokens.new ≡ past_public tokens.old }
+#[tactic(auto, unfolding(crate::specs::Language::visibility))]
+fn visibility(tokens: &mut Tokens<'_, Symbol>) -> Result<(), ParseError>
+    ensures { Reads (reads visibility tokens.old) result tokens.new }
 {
-    tokens.eat_word(b"pub");
+    if tokens.is_at(Kind::Pub) {
+        tokens.expect(Kind::Pub)?;
+    }
+    Ok(())
 }
 
 /// 'pub'? 'fn' NAME '('
-#[tactic(auto, unfolding(crate::specs::Parse::title))]
-fn title<'a>(tokens: &mut Tokens<'_, 'a>) -> Result<Word<'a>, Stop>
-    ensures { Reads (title tokens.old) result tokens.new }
+#[tactic(auto, unfolding(crate::specs::Language::title))]
+fn title(tokens: &mut Tokens<'_, Symbol>) -> Result<Span, ParseError>
+    ensures { Reads (reads title tokens.old) result tokens.new }
 {
-    visibility(tokens);
-    tokens.word(b"fn")?;
-    let name = tokens.item_name()?;
-    tokens.mark(b'(')?;
-    Ok(name)
+    visibility(tokens)?;
+    tokens.expect(Kind::Fn)?;
+    let name = tokens.expect(Kind::Name)?;
+    tokens.expect(Kind::LeftParenthesis)?;
+    Ok(name.span)
 }
 
-/// '->' 'u32' '{'
-#[tactic(auto, unfolding(crate::specs::Parse::past_type))]
-fn result_type(tokens: &mut Tokens<'_, '_>) -> Result<(), Stop>
-    ensures { Passes (past_type tokens.old) result tokens.new }
+/// ')' '->' 'u32' '{'
+#[tactic(auto, unfolding(crate::specs::Language::opening))]
+fn opening(tokens: &mut Tokens<'_, Symbol>) -> Result<(), ParseError>
+    ensures { Reads (reads opening tokens.old) result tokens.new }
 {
-    tokens.arrow()?;
-    tokens.word(b"u32")?;
-    tokens.mark(b'{')
+    tokens.expect(Kind::RightParenthesis)?;
+    tokens.expect(Kind::Arrow)?;
+    tokens.expect(Kind::U32)?;
+    tokens.expect(Kind::LeftBrace)?;
+    Ok(())
 }
 
-/// File ::= 'pub'? 'fn' NAME '(' (Par (',' Par)*)? ')' '->' 'u32' '{' Stmt* Sum '}'
-#[tactic(auto, unfolding(crate::specs::Parse::file))]
-pub fn file<'a>(alloc: Global, tokens: &mut Tokens<'_, 'a>) -> Result<File<'a>, Stop>
-    ensures { Reads (file tokens.old) result tokens.new }
+/// File ::= 'pub'? 'fn' NAME '(' (Param (',' Param)*)? ')' '->' 'u32' '{' Body '}'
+#[tactic(auto, unfolding(crate::specs::Reading::file_read))]
+fn file(alloc: Global, tokens: &mut Tokens<'_, Symbol>) -> Result<File, ParseError>
+    ensures { Reads (reads file_read tokens.old) result tokens.new }
 {
     let name = title(tokens)?;
-    let params = params(alloc, tokens)?;
-    result_type(tokens)?;
-    let stmts = statements(alloc, tokens)?;
-    let sum = sum(alloc, tokens)?;
-    tokens.mark(b'}')?;
+    let parameters = params(alloc, tokens)?;
+    opening(tokens)?;
+    let body = body(alloc, tokens)?;
+    tokens.expect(Kind::RightBrace)?;
     Ok(File {
         name,
-        params,
-        stmts,
-        sum,
+        parameters,
+        body,
     })
+}
+
+/// The file that all the tokens are.
+///
+/// `At`: the first token with which no file goes on. `NoMemory`: want of memory.
+pub fn read(alloc: Global, tokens: &[Symbol]) -> Result<File, Refusal>
+    ensures parses { Parses written AFile 1 tokens.now result }
+    ensures flat { result ≡ Err Refusal.TooDeep → ⊥ }
+{
+    let mut rest = Tokens::new(tokens);
+    let found = file(alloc, &mut rest);
+    exact::<Language>();
+    finish(found, tokens, &rest)
 }

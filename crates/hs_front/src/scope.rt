@@ -1,10 +1,10 @@
 //! The locals in scope.
 
 ghost use Rattle.std.specs.Prelude.{◌≡◌, [], Some, None, length, MatchOption, OnOk};
-ghost use Rattle.hs_front.specs.Accepted.{found, bound};
+ghost use Rattle.hs_front.specs.Scope.{found, bound};
 
-use crate::token::Word;
 use hs_base::memory::NoMemory;
+use indexmap::IndexMap;
 use sqlite_items::Items;
 use std::alloc::Global;
 use std::marker::Model;
@@ -12,7 +12,7 @@ use std::marker::Model;
 /// A local: its name, and whether it may be assigned.
 #[derive(Drop)]
 pub struct Local<'a> {
-    name: Word<'a>,
+    name: &'a [u8],
     mutable: bool,
 }
 
@@ -23,20 +23,23 @@ pub struct Found {
     pub mutable: bool,
 }
 
-/// The locals in scope. A local's number is how many were bound before it.
+/// The locals in scope, and the latest of each name. A local's number is how many were bound before it.
 #[derive(Drop)]
 pub struct Scope<'a> {
     locals: Items<Local<'a>>,
+    latest: IndexMap<&'a [u8], Found>,
 }
 
 impl<'a> Model for Scope<'a> {
-    ghost use Rattle.hs_front.specs.Accepted.{Scope as Locals};
+    ghost use Rattle.hs_front.specs.Scope.{Scope as Locals};
 
     ghost Value = { Locals };
 
-    ghost use Rattle.hs_front.specs.Locals.{scope_of};
+    ghost use Rattle.hs_front.specs.Locals.{scope_of, Indexes};
 
     ghost view = { λ scope. scope_of scope.locals };
+
+    ghost invariant = { λ scope. Indexes scope.locals scope.latest };
 }
 
 impl<'a> Scope<'a> {
@@ -46,6 +49,7 @@ impl<'a> Scope<'a> {
     {
         Scope {
             locals: Items::new(alloc),
+            latest: IndexMap::new(alloc),
         }
     }
 
@@ -57,28 +61,24 @@ impl<'a> Scope<'a> {
     }
 
     /// Binds one more local.
-    pub fn bind(&mut self, mutable: bool, name: Word<'a>) -> Result<(), NoMemory>
-        ensures { OnOk result (self.new ≡ bound mutable name.entry self.old) }
+    pub fn bind(&mut self, mutable: bool, name: &'a [u8]) -> Result<(), NoMemory>
+        ensures { OnOk result (self.new ≡ bound mutable name.now self.old) }
     {
-        self.locals.push(Local { name, mutable })
+        let number = self.locals.len();
+        self.locals.push(Local { name, mutable })?;
+        match self.latest.insert(name, Found { number, mutable }) {
+            Ok(_) => Ok(()),
+            Err(_) => {
+                self.locals.pop();
+                Err(NoMemory)
+            }
+        }
     }
 
     /// The latest local of this name.
-    pub fn find(&self, name: &Word<'_>) -> Option<Found>
+    pub fn find(&self, name: &[u8]) -> Option<Found>
         ensures { MatchOption result (found name.now self.now ≡ None) (λ local. found name.now self.now ≡ Some (local.number, local.mutable)) }
     {
-        let locals = self.locals.as_slice();
-        let mut number = locals.len();
-        while number > 0 {
-            number -= 1;
-            let local = &locals[number];
-            if name.text() == local.name.text() {
-                return Some(Found {
-                    number,
-                    mutable: local.mutable,
-                });
-            }
-        }
-        None
+        self.latest.get(name).copied()
     }
 }

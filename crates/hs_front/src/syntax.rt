@@ -1,36 +1,48 @@
 //! What a file says, before its names are known.
 
-use crate::token::Word;
 use sqlite_items::Items;
 
-/// A part of a sum.
+/// Where a token stands: from the byte `start` up to but without `end`.
+#[derive(Clone, Copy, Debug, PartialEq, Eq)]
+pub struct Span {
+    pub start: u32,
+    pub end: u32,
+}
+
+/// A part of a sum. A name is its place.
 #[derive(Drop)]
-pub enum Prim<'a> {
-    Name(Word<'a>),
+pub enum Prim {
+    Name(Span),
     Int(u32),
 }
 
 /// A sum of one or more parts.
 #[derive(Drop)]
-pub struct Sum<'a> {
-    pub first: Prim<'a>,
-    pub more: Items<Prim<'a>>,
+pub struct Sum {
+    pub first: Prim,
+    pub more: Items<Prim>,
 }
 
 /// A statement.
 #[derive(Drop)]
-pub enum Stmt<'a> {
+pub enum Stmt {
     /// Binds a local, which may be assigned or not.
-    Let(bool, Word<'a>, Sum<'a>),
+    Let(bool, Span, Sum),
     /// Assigns a local.
-    Set(Word<'a>, Sum<'a>),
+    Set(Span, Sum),
 }
 
-/// A file: one function, with its parameters' names, its statements and its value.
+/// The statements of a function, and its value.
 #[derive(Drop)]
-pub struct File<'a> {
-    pub name: Word<'a>,
-    pub params: Items<Word<'a>>,
-    pub stmts: Items<Stmt<'a>>,
-    pub sum: Sum<'a>,
+pub struct Body {
+    pub statements: Items<Stmt>,
+    pub value: Sum,
+}
+
+/// A file: one function, with its parameters' names and its body.
+#[derive(Drop)]
+pub struct File {
+    pub name: Span,
+    pub parameters: Items<Span>,
+    pub body: Body,
 }

@@ -1,86 +1,47 @@
-//! Words: which of them are names, and which are numbers.
+//! The words of the language.
 
-ghost use Rattle.std.specs.Prelude.{◌≡◌, bytes_eq, Some, None, if◌then◌else◌};
+ghost use Rattle.std.specs.Prelude.{◌≡◌, ◌-◌, List, bytes_eq, take, drop};
+ghost use Rattle.std.specs.List.{list_any};
 ghost use Rattle.std.specs.Str.{all_ascii_digits};
-ghost use Rattle.std.specs.Str.Parse.{digits_value};
-ghost use Rattle.std.specs.List.{list_any, prefix_len};
-ghost use Rattle.hs_front.specs.Tokens.{is_letter, is_word_byte, is_blank, is_mark};
-ghost use Rattle.hs_front.specs.Read.{begins_arrow};
-ghost use Rattle.hs_front.specs.Parse.{is_item_name};
-ghost use Rattle.hs_front.specs.Surface.{contains, reserved, built_in, begins_with_letter, is_name, is_int};
+ghost use Rattle.hs_words.specs.declared.kinds.IntTy as int_ty;
+ghost use Rattle.hs_front.specs.Words.{built_in, is_built_in, name_kind, reserved_kind, number_kind, mark_kind, kind_of};
 
-/// Whether the byte is a letter or `_`.
-fn is_letter(byte: u8) -> bool
-    ensures { result ≡ is_letter byte }
+use crate::symbol::Kind;
+use hs_lexer::TokenKind;
+use hs_words::IntTy;
+
+/// The bytes of the text behind so many of them.
+#[tactic(auto, using(std::proofs::lemmas::List::drop_all))]
+fn behind(text: &[u8], start: usize) -> &[u8]
+    ensures { result.now ≡ drop start text.now }
 {
-    byte.is_ascii_alphabetic() || byte == b'_'
-}
-
-/// Whether a word may hold the byte.
-pub fn is_word_byte(byte: u8) -> bool
-    ensures { result ≡ is_word_byte byte }
-{
-    is_letter(byte) || byte.is_ascii_digit()
-}
-
-/// Whether the byte separates tokens: a space, a tab, a line feed or a carriage return.
-pub fn is_blank(byte: u8) -> bool
-    ensures { result ≡ is_blank byte }
-{
-    byte == b' ' || byte == b'\t' || byte == b'\n' || byte == b'\r'
-}
-
-/// Whether the byte alone is a token.
-pub fn is_mark(byte: u8) -> bool
-    ensures { result ≡ is_mark byte }
-{
-    matches!(
-        byte,
-        b'(' | b')' | b'{' | b'}' | b',' | b':' | b'+' | b'>' | b'=' | b';'
-    )
-}
-
-/// Whether the text begins with an arrow.
-pub fn begins_arrow(text: &[u8]) -> bool
-    ensures { result ≡ begins_arrow text.now }
-{
-    text.len() > 1 && text[0] == b'-' && text[1] == b'>'
-}
-
-/// How many bytes at the front of the text a word may hold.
-pub fn word_len(text: &[u8]) -> usize
-    ensures { result ≡ prefix_len is_word_byte text.now }
-{
-    text.iter().take_while(|byte| is_word_byte(**byte)).count()
-}
-
-/// The words that no name is.
-const RESERVED: [&str; 51] = [
-    "as", "break", "const", "continue", "crate", "else", "enum", "extern", "false", "fn", "for",
-    "if", "impl", "in", "let", "loop", "match", "mod", "move", "mut", "pub", "ref", "return",
-    "self", "Self", "static", "struct", "super", "trait", "true", "type", "unsafe", "use", "where",
-    "while", "async", "await", "dyn", "abstract", "become", "box", "do", "final", "macro",
-    "override", "priv", "typeof", "unsized", "virtual", "yield", "try",
-];
-
-/// Whether the list holds the word.
-fn is_in(list: &[&str], word: &[u8]) -> bool
-    ensures { result ≡ list_any (λ text. bytes_eq word.now text.now) list.now }
-{
-    for text in list {
-        if word == text.as_bytes() {
-            return true;
-        }
+    if start < text.len() {
+        &text[start..]
+    } else {
+        &[]
     }
-    false
 }
 
-/// Whether the word is reserved.
-fn is_reserved(word: &[u8]) -> bool
-    ensures { result ≡ contains word.now reserved }
+/// So many of the text's first bytes, as far as there are any.
+#[tactic(auto, using(std::proofs::Common::take_all))]
+pub fn front(text: &[u8], length: usize) -> &[u8]
+    ensures { result.now ≡ take length text.now }
 {
-    let words: [&str; 51] = RESERVED;
-    is_in(&words, word)
+    if length < text.len() {
+        &text[..length]
+    } else {
+        text
+    }
+}
+
+/// The bytes of the text from one place up to another, as far as there are any.
+pub fn spelling(text: &[u8], start: u32, end: u32) -> &[u8]
+    ensures { result.now ≡ take (end - start) (drop start text.now) }
+{
+    front(
+        behind(text, start as usize),
+        end.saturating_sub(start) as usize,
+    )
 }
 
 /// The names that no item may take.
@@ -131,42 +92,52 @@ const BUILT_IN: [&str; 44] = [
     "U128_from_U64",
 ];
 
+/// Whether the list holds the word.
+fn is_in(list: &[&str], word: &[u8]) -> bool
+    ensures { result ≡ list_any (λ text. bytes_eq word.now text.now) list.now }
+{
+    for text in list {
+        if word == text.as_bytes() {
+            return true;
+        }
+    }
+    false
+}
+
 /// Whether the word is a built-in name.
+#[tactic(auto, unfolding(crate::specs::Words::is_built_in))]
 fn is_built_in(word: &[u8]) -> bool
-    ensures { result ≡ contains word.now built_in }
+    ensures { result ≡ is_built_in word.now }
 {
     let names: [&str; 44] = BUILT_IN;
     is_in(&names, word)
 }
 
-/// Whether the word begins with a letter or `_`.
-fn begins_with_letter(word: &[u8]) -> bool
-    ensures { result ≡ begins_with_letter word.now }
+/// The kind of a name.
+fn name_kind(word: &[u8]) -> Kind
+    ensures { result ≡ name_kind word.now }
 {
-    match word.first() {
-        Some(byte) => is_letter(*byte),
-        None => false,
+    if word == b"u32".as_slice() {
+        Kind::U32
+    } else if is_built_in(word) {
+        Kind::BuiltIn
+    } else {
+        Kind::Name
     }
 }
 
-/// The most bytes that a name has.
-const MAX_NAME_BYTES: usize = 64;
-
-/// Whether the word is a name.
-pub fn is_name(word: &[u8]) -> bool
-    ensures { result ≡ is_name word.now }
+/// The kind of a reserved word.
+#[tactic(auto, unfolding(crate::specs::Words::reserved_kind))]
+fn reserved_kind(word: &[u8]) -> Kind
+    ensures { result ≡ reserved_kind word.now }
 {
-    begins_with_letter(word)
-        && word.len() <= MAX_NAME_BYTES
-        && word != b"_".as_slice()
-        && !is_reserved(word)
-}
-
-/// Whether a function may have this name.
-pub fn is_item_name(word: &[u8]) -> bool
-    ensures { result ≡ is_item_name word.now }
-{
-    is_name(word) && !is_built_in(word)
+    match word {
+        b"pub" => Kind::Pub,
+        b"fn" => Kind::Fn,
+        b"let" => Kind::Let,
+        b"mut" => Kind::Mut,
+        _ => Kind::Other,
+    }
 }
 
 /// Whether all bytes are decimal digits.
@@ -181,15 +152,46 @@ fn is_digits(word: &[u8]) -> bool
     true
 }
 
-/// The number that the word is: decimal digits, with a value of at most 4294967295.
-pub fn number(word: &[u8]) -> Option<u32>
-    ensures { result ≡ (if is_int word.now then Some (digits_value 10 word.now) else None) }
+/// The kind of a number.
+fn number_kind(value: u128, suffix: Option<IntTy>, word: &[u8]) -> Kind
+    ensures { result ≡ number_kind value suffix word.now }
 {
-    if !is_digits(word) {
-        return None;
+    if is_digits(word) && value < 4_294_967_296 && suffix.is_none() {
+        Kind::Number
+    } else {
+        Kind::Other
     }
-    match std::str::from_utf8(word) {
-        Ok(digits) => digits.parse().ok(),
-        Err(_) => None,
+}
+
+/// The kind of a mark.
+#[tactic(auto, unfolding(crate::specs::Words::mark_kind))]
+fn mark_kind(word: &[u8]) -> Kind
+    ensures { result ≡ mark_kind word.now }
+{
+    match word {
+        b"(" => Kind::LeftParenthesis,
+        b")" => Kind::RightParenthesis,
+        b"{" => Kind::LeftBrace,
+        b"}" => Kind::RightBrace,
+        b"," => Kind::Comma,
+        b":" => Kind::Colon,
+        b";" => Kind::Semicolon,
+        b"->" => Kind::Arrow,
+        b"=" => Kind::Equals,
+        b"+" => Kind::Plus,
+        _ => Kind::Other,
+    }
+}
+
+/// The kind of a token with this spelling.
+pub fn kind_of(kind: TokenKind, word: &[u8]) -> Kind
+    ensures { result ≡ kind_of kind word.now }
+{
+    match kind {
+        TokenKind::Name => name_kind(word),
+        TokenKind::Reserved => reserved_kind(word),
+        TokenKind::Int(value, suffix) => number_kind(value, suffix, word),
+        TokenKind::Text => Kind::Other,
+        TokenKind::Mark => mark_kind(word),
     }
 }

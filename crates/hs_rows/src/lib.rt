@@ -2,4 +2,12 @@
 #![tactic(auto)]
 
 #[cfg(test)]
+mod calls;
+#[cfg(test)]
 mod print;
+#[cfg(test)]
+mod refuse;
+#[cfg(test)]
+mod sinks;
+#[cfg(test)]
+mod sure;

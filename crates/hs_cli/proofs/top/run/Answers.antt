@@ -1,4 +1,4 @@
-use Rattle.std.proofs.Common.{rules, arith, ◌≡◌, ℕ, ◌≤◌, List, length, map, string_bytes, inl, inr, subst, sym, ap, ◌∙◌}
+use Rattle.std.proofs.Common.{length, map, string_bytes, inl, inr, subst, sym, ◌∙◌}
 use Rattle.std.specs.Io.KnownBytes.{Appends}
 use Rattle.hs_base.specs.Causes.{TookPrefix}
 use Rattle.hs_cli.specs.Output.{OutputFrom}
@@ -51,8 +51,11 @@ returns-clause-headline g c =
     let answer = c.in-Ok.answer in
     let output = subst (λ words. OutputFrom (map string_bytes words) (g.F.Files.told c.args.files.now) (written_of answer)) c.deref.ensures.value c.in-Ok.ensures.output in
     let whole = at_ok c.put_all.result _ (sym c.is_err.ensures.value ∙ c.if-is_err.false) c.put_all.ensures.ok in
-    headline_from (map string_bytes c.args.words.now.items) (g.F.Files.told c.args.files.now) (written_of answer) (g.O.Sink.taken c.args.out.now) (g.O.Sink.taken c.put_all.new.sink) output
+    let whole_err = at_ok c.put_all-2.result _ (sym c.is_err-2.ensures.value ∙ c.if-is_err-2.false) c.put_all-2.ensures.ok in
+    headline_from (map string_bytes c.args.words.now.items) (g.F.Files.told c.args.files.now) (written_of answer) (g.O.Sink.taken c.args.out.now) (g.O.Sink.taken c.put_all.new.sink)
+    (g.E.Sink.taken c.args.err.now) (g.E.Sink.taken c.put_all-2.new.sink) output
     (subst (Appends (g.O.Sink.taken c.args.out.now) (g.O.Sink.taken c.put_all.new.sink)) c.deref-2.ensures.value whole)
+    (subst (Appends (g.E.Sink.taken c.args.err.now) (g.E.Sink.taken c.put_all-2.new.sink)) c.deref-3.ensures.value whole_err)
 
 pub returns-clause-part : goal.returns-clause-part
 returns-clause-part g c =

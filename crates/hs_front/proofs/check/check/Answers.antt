@@ -1,9 +1,47 @@
+use Rattle.std.proofs.Common.{All, sym, subst}
 use Rattle.hs_tree.specs.Of.{program_of}
-use Rattle.hs_front.proofs.Whole.{accepted_if, refused_if}
+use Rattle.hs_lexer.specs.Lexes.{Lexes}
+use Rattle.hs_lexer.specs.Places.{IsNamed}
+use Rattle.hs_front.specs.Language.{AFile}
+use Rattle.hs_front.proofs.Whole.{accepted_once, accepted_apart, behind_accepted, behind_told, behind_only, behind_only_break, stop_only, stop_only_break}
 use Rattle.hs_front.proofs.check.check.Goals as goal
 
-pub returns-clause-accepted : goal.returns-clause-accepted
-returns-clause-accepted c = accepted_if c.args.bytes.now program_of c.checked.result c.checked.ensures
+lexes : (c : goal.After-drop-tokens-inside) → Lexes c.args.bytes.now c.as_slice.result.now
+lexes c = subst (Lexes c.args.bytes.now) (sym c.as_slice.ensures) c.in-Ok.ensures.tokens
 
-pub returns-clause-refused : goal.returns-clause-refused
-returns-clause-refused c = refused_if c.args.bytes.now program_of c.checked.result c.checked.ensures
+pub returns-in-Ok-clause-accepted : goal.returns-in-Ok-clause-accepted
+returns-in-Ok-clause-accepted c =
+    behind_accepted c.args.bytes.now c.lex.ensures.one c.lex.ensures.apart (c.exact.ensures.unique AFile) (c.exact.ensures.apart AFile) program_of c.as_slice.result.now (lexes c) c.checked.result c.checked.ensures.accepted
+
+pub returns-in-Ok-clause-told : goal.returns-in-Ok-clause-told
+returns-in-Ok-clause-told c =
+    behind_told c.args.bytes.now c.lex.ensures.one c.lex.ensures.apart (c.exact.ensures.unique AFile) (c.exact.ensures.apart AFile) program_of c.as_slice.result.now (lexes c) c.checked.result c.checked.ensures.told
+
+pub returns-in-Ok-clause-only_program : goal.returns-in-Ok-clause-only_program
+returns-in-Ok-clause-only_program c =
+    behind_only c.args.bytes.now c.lex.ensures.one c.lex.ensures.apart (c.exact.ensures.unique AFile) (c.exact.ensures.apart AFile) program_of c.as_slice.result.now (lexes c) c.checked.result c.checked.ensures.only_program
+
+pub returns-in-Ok-clause-only_break : goal.returns-in-Ok-clause-only_break
+returns-in-Ok-clause-only_break c =
+    behind_only_break c.args.bytes.now c.lex.ensures.one c.lex.ensures.apart (c.exact.ensures.unique AFile) (c.exact.ensures.apart AFile) program_of c.as_slice.result.now (lexes c) c.checked.result c.checked.ensures.only_break
+
+pub returns-in-Ok-clause-one : goal.returns-in-Ok-clause-one
+returns-in-Ok-clause-one c = accepted_once c.args.bytes.now c.lex.ensures.one c.lex.ensures.apart (c.exact.ensures.unique AFile) (c.exact.ensures.apart AFile)
+
+pub returns-in-Ok-clause-apart : goal.returns-in-Ok-clause-apart
+returns-in-Ok-clause-apart c = accepted_apart c.args.bytes.now c.lex.ensures.one c.lex.ensures.apart (c.exact.ensures.unique AFile) (c.exact.ensures.apart AFile)
+
+pub returns-in-Err-clause-only_program : goal.returns-in-Err-clause-only_program
+returns-in-Err-clause-only_program c = stop_only c.args.bytes.now c.in-Err.stop c.in-Err.ensures.only_tokens
+
+pub returns-in-Err-clause-only_break : goal.returns-in-Err-clause-only_break
+returns-in-Err-clause-only_break c = stop_only_break c.args.bytes.now c.in-Err.stop c.in-Err.ensures.only_tokens c.in-Err.ensures.only_break
+
+pub returns-in-Err-clause-one : goal.returns-in-Err-clause-one
+returns-in-Err-clause-one c = accepted_once c.args.bytes.now c.lex.ensures.one c.lex.ensures.apart (c.exact.ensures.unique AFile) (c.exact.ensures.apart AFile)
+
+pub returns-in-Err-clause-apart : goal.returns-in-Err-clause-apart
+returns-in-Err-clause-apart c = accepted_apart c.args.bytes.now c.lex.ensures.one c.lex.ensures.apart (c.exact.ensures.unique AFile) (c.exact.ensures.apart AFile)
+
+pub checked-requires-clause-named : goal.checked-requires-clause-named
+checked-requires-clause-named c = subst (λ ts. All (IsNamed c.args.bytes.now) ts) (sym c.as_slice.ensures) c.in-Ok.ensures.named

@@ -1,6 +1,6 @@
 use Rattle.std.proofs.Common.{◌≡◌, ◌++◌, map, drop}
 use Rattle.hs_tree.specs.Of.{param_of}
-use Rattle.hs_front.specs.Accepted.{params_from}
+use Rattle.hs_front.specs.Program.{params_from}
 use Rattle.hs_front.proofs.resolve.parameters.Given as goal
 
 abbrev pub invariant-loop-local : goal.invariant-loop-local
