@@ -1,0 +1,13 @@
+pub mod Factor
+pub mod Inside
+pub mod Flags
+pub mod Patterns
+pub mod Types
+pub mod Expressions
+pub mod Items
+pub mod Layers
+pub mod Places
+pub mod Targets
+pub mod Statements
+pub mod Agree
+pub mod Rows

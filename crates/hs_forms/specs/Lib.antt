@@ -1,0 +1,9 @@
+pub mod Lexis
+pub mod Words
+pub mod Tokens
+pub mod Nodes
+pub mod Blocks
+pub mod Grammar
+pub mod Fits
+pub mod Reading
+pub mod Written
