@@ -1,0 +1,4 @@
+pub mod Arms
+pub mod Full
+pub mod Last
+pub mod Starts

@@ -1,0 +1,11 @@
+//! The parser of items and files: one function for each form of the grammar.
+#![tactic(auto)]
+
+mod declaration_forms;
+mod items;
+mod macro_forms;
+mod parameter_forms;
+#[cfg(test)]
+mod tests;
+
+pub use items::file;

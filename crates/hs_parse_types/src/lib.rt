@@ -1,0 +1,10 @@
+//! The parser of types and patterns: one function for each form of the grammar.
+#![tactic(auto)]
+
+mod pattern_forms;
+#[cfg(test)]
+mod tests;
+mod type_forms;
+
+pub use pattern_forms::{arm_pattern, pattern, patterns};
+pub use type_forms::{maybe_open, parts, ty};
