@@ -1,19 +1,39 @@
 -- What is broken is listed in the order in which it is told, where nodes lie one behind the other and parts in their nodes.
-use Rattle.std.proofs.Common.{ℕ, suc, ◌≡◌, ◌<◌, ◌≤◌, ◌⊎◌, inl, inr, refl, sym, ◌∙◌, subst, Bool, true, false, cond, ltb, Option, Some, None, List, [], ◌∷◌, ◌++◌, map, arith}
+use Rattle.std.proofs.Common.{ℕ, suc, ◌≡◌, ◌<◌, ◌≤◌, ◌⊎◌, inl, inr, refl, sym, ◌∙◌, ap, ap₂, subst, Bool, true, false, cond, ltb, Option, Some, None, List, [], ◌∷◌, ◌++◌, map, arith}
 use Rattle.std.proofs.Math.Nat.{eq-or-lt_of_le}
 use Rattle.hs_base.specs.declared.rule.Rule.{Rule}
 use Rattle.hs_base.specs.declared.rule.Rule.TheVariants.{S2}
+use Rattle.hs_base.specs.Rules.{number_of}
 use Rattle.hs_syntax.specs.declared.span.Span.{Span}
+use Rattle.hs_limits.specs.declared.passed.Passed.{Passed}
 use Rattle.hs_limits.specs.Outline.{Outline, Kind, Surplus, none, join, node, counted, through, apart, parameter, statement, part, rise, height}
 use Rattle.hs_limits.specs.Nested.{Nested}
-use Rattle.hs_limits.specs.Told.{Mark, mark, marks, too_high, too_many, Before, Each, Answers}
+use Rattle.hs_limits.specs.Told.{Mark, mark, marks, too_high, too_many, Before, Among, Each, Told, Answers}
 use Rattle.hs_limits.specs.Walk.{first}
 use Rattle.hs_limits.proofs.First.{head_of, first_is}
+
+-- m is told before n, and is not n
+abbrev Ahead : Mark → Mark → Type 0
+Ahead m n = (m.at.end < n.at.end) ⊎ ((m.at.end ≡ n.at.end) × ((n.depth < m.depth) ⊎ ((m.depth ≡ n.depth) × (number_of m.rule < number_of n.rule))))
+
+ahead_before : (m n : Mark) → Ahead m n → Before m n
+ahead_before m n (inl h) = inl h
+ahead_before m n (inr (e, inl h)) = inr (e, inl h)
+ahead_before m n (inr (e, inr (d, h))) = inr (e, inr (d, omega arith))
+
+not_before : (m n : Mark) → Ahead m n → Before n m → ⊥
+not_before m n (inl h) (inl k) = omega arith
+not_before m n (inl h) (inr (f, k)) = omega arith
+not_before m n (inr (e, h)) (inl k) = omega arith
+not_before m n (inr (e, inl h)) (inr (f, inl k)) = omega arith
+not_before m n (inr (e, inl h)) (inr (f, inr (d, k))) = omega arith
+not_before m n (inr (e, inr (d, h))) (inr (f, inl k)) = omega arith
+not_before m n (inr (e, inr (d, h))) (inr (f, inr (g, k))) = omega arith
 
 -- each is told before all that follow
 abbrev Sorted : List Mark → Type 0
 Sorted [] = Unit {0}
-Sorted (m ∷ ms) = Each (Before m) ms × Sorted ms
+Sorted (m ∷ ms) = Each (Ahead m) ms × Sorted ms
 
 abbrev Within : ℕ → ℕ → ℕ → Mark → Type 0
 Within low high depth m = (low < m.at.end) × (m.at.end ≤ high) × (depth ≤ m.depth)
@@ -30,10 +50,10 @@ each_append : (P : Mark → Type 0) (xs ys : List Mark) → Each P xs → Each P
 each_append P [] ys h k = k
 each_append P (x ∷ xs) ys h k = (h.0, each_append P xs ys h.1 k)
 
-sorted_append : (P Q : Mark → Type 0) → ((m n : Mark) → P m → Q n → Before m n) → (xs ys : List Mark) → Each P xs → Each Q ys → Sorted xs → Sorted ys → Sorted (xs ++ ys)
+sorted_append : (P Q : Mark → Type 0) → ((m n : Mark) → P m → Q n → Ahead m n) → (xs ys : List Mark) → Each P xs → Each Q ys → Sorted xs → Sorted ys → Sorted (xs ++ ys)
 sorted_append P Q f [] ys h k a b = b
 sorted_append P Q f (x ∷ xs) ys h k a b =
-    (each_append (Before x) xs ys a.0 (each_map Q (Before x) (λ n q. f x n h.0 q) ys k), sorted_append P Q f xs ys h.1 k a.1 b)
+    (each_append (Ahead x) xs ys a.0 (each_map Q (Ahead x) (λ n q. f x n h.0 q) ys k), sorted_append P Q f xs ys h.1 k a.1 b)
 
 nested_ordered : (o : Outline) (low high : ℕ) → Nested o low high → low ≤ high
 nested_ordered none low high h = h
@@ -71,9 +91,9 @@ own_in_order at depth counted over h = own_sorted at depth (ltb 64 h) over
 own_in_order at depth through over h = own_sorted at depth false over
 own_in_order at depth apart over h = own_sorted at depth false over
 
-before_own : (at : Span) (depth : ℕ) (m n : Mark) → m.at.end ≤ at.end → suc depth ≤ m.depth → Own at depth n → (m.at.end ≡ at.end) ⊎ (m.at.end < at.end) → Before m n
-before_own at depth m n a b p (inl h) = inr (h ∙ sym p.0, inl (omega (arith, b, p.1)))
-before_own at depth m n a b p (inr h) = inl (omega (arith, h, p.0))
+ahead_own : (at : Span) (depth : ℕ) (m n : Mark) → m.at.end ≤ at.end → suc depth ≤ m.depth → Own at depth n → (m.at.end ≡ at.end) ⊎ (m.at.end < at.end) → Ahead m n
+ahead_own at depth m n a b p (inl h) = inr (h ∙ sym p.0, inl (omega (arith, b, p.1)))
+ahead_own at depth m n a b p (inr h) = inl (omega (arith, h, p.0))
 
 in_node : (at : Span) (depth low high : ℕ) (rules : List Rule) (ms : List Mark) → low ≤ at.start → at.start < at.end → at.end ≤ high
     → In at.start at.end (suc depth) ms → Sorted (map (mark at depth) rules) → In low high depth (ms ++ map (mark at depth) rules)
@@ -81,7 +101,7 @@ in_node at depth low high rules ms p q r h k = (
   each_append (Within low high depth) ms (map (mark at depth) rules)
       (each_map (Within at.start at.end (suc depth)) (Within low high depth) (λ m w. (omega (arith, w.0, p), omega (arith, w.1, r), omega (arith, w.2))) ms h.0)
       (each_map (Own at depth) (Within low high depth) (λ m w. (omega (arith, w.0, p, q), omega (arith, w.0, r), omega (arith, w.1))) (map (mark at depth) rules) (own_each at depth rules)),
-  sorted_append (Within at.start at.end (suc depth)) (Own at depth) (λ m n a b. before_own at depth m n a.1 a.2 b (eq-or-lt_of_le a.1))
+  sorted_append (Within at.start at.end (suc depth)) (Own at depth) (λ m n a b. ahead_own at depth m n a.1 a.2 b (eq-or-lt_of_le a.1))
       ms (map (mark at depth) rules) h.0 (own_each at depth rules) h.1 k,
 )
 
@@ -95,8 +115,31 @@ in_order (node at kind over parts) depth low high h =
 
 head_told : (ms : List Mark) → Sorted ms → Answers ms (head_of ms)
 head_told [] h = refl
-head_told (m ∷ ms) h = (m, inl refl, (inr (refl, inr (refl, omega arith)), h.0), refl, refl)
+head_told (m ∷ ms) h = (m, inl refl, (inr (refl, inr (refl, omega arith)), each_map (Ahead m) (Before m) (ahead_before m) ms h.0), refl, refl)
 
 -- where nodes are nested, the first on the way is the told one
 pub first_told : (o : Outline) (low high : ℕ) → Nested o low high → Answers (marks o 0) (first o)
 first_told o low high h = subst (Answers (marks o 0)) (sym (first_is o 0)) (head_told (marks o 0) (in_order o 0 low high h).1)
+
+each_among : (P : Mark → Type 0) (ms : List Mark) (m : Mark) → Each P ms → Among m ms → P m
+each_among P [] m h a = absurd a
+each_among P (n ∷ ns) m h (inl e) = subst P (sym e) h.0
+each_among P (n ∷ ns) m h (inr a) = each_among P ns m h.1 a
+
+abbrev some_passed : Rule → Span → Option Passed
+some_passed rule at = Some (record { rule = rule; span = at })
+
+-- what is told before all of them is their first
+told_first : (n : Mark) (ns : List Mark) → Each (Ahead n) ns → (p : Passed) (m : Mark) → (m ≡ n) ⊎ Among m ns → Before m n
+    → p.rule ≡ m.rule → p.span ≡ m.at → head_of (n ∷ ns) ≡ Some p
+told_first n ns h p m (inl e) b r s =
+    ap₂ some_passed (ap (λ (x : Mark). x.rule) (sym e) ∙ sym r) (ap (λ (x : Mark). x.at) (sym e) ∙ sym s)
+told_first n ns h p m (inr a) b r s = absurd (not_before n m (each_among (Ahead n) ns m h a) b)
+
+head_only : (ms : List Mark) → Sorted ms → (p : Passed) → Told ms p → head_of ms ≡ Some p
+head_only [] h p t = absurd t.1
+head_only (n ∷ ns) h p t = told_first n ns h.0 p t.0 t.1 t.2.0 t.3 t.4
+
+-- and only that one is
+pub first_only : (o : Outline) (low high : ℕ) → Nested o low high → (p : Passed) → Told (marks o 0) p → first o ≡ Some p
+first_only o low high h p t = first_is o 0 ∙ head_only (marks o 0) (in_order o 0 low high h).1 p t

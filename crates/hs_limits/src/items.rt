@@ -1,10 +1,11 @@
 //! Items and files.
 
-ghost use Rattle.std.specs.Prelude.{◌≡◌, map};
+ghost use Rattle.std.specs.Prelude.{◌≡◌, Some, map};
+ghost use Rattle.hs_limits.specs.declared.passed.Passed.{Passed};
 ghost use Rattle.hs_limits.specs.Outline.{one, all, upto, part, parameter};
 ghost use Rattle.hs_limits.specs.Nested.{NestedFile};
 ghost use Rattle.hs_limits.specs.Nodes.{kind_outline, node_of_item, node_of_ctor, node_of_param};
-ghost use Rattle.hs_limits.specs.Told.{Answers, HeightsAgree, marks_of};
+ghost use Rattle.hs_limits.specs.Told.{Answers, HeightsAgree, Told, marks_of};
 ghost use Rattle.hs_limits.specs.Walk.{SaysNone, first};
 
 use crate::flat::{PARTS, is_past, optional_type, ty, tys};
@@ -33,6 +34,7 @@ const CONSTRUCTORS: usize = 256;
 pub fn limits(file: &File) -> Option<Passed>
     requires { NestedFile file.now }
     ensures told { Answers (marks_of file.now) result }
+    ensures only { (p : Passed) → Told (marks_of file.now) p → result ≡ Some p }
     ensures heights { HeightsAgree }
 {
     match items(&file.items) {

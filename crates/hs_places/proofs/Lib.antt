@@ -1,0 +1,12 @@
+pub mod Spaces
+pub mod Outlines
+pub mod Layers
+pub mod Facts
+pub mod Gives
+pub mod Types
+pub mod Patterns
+pub mod Exps
+pub mod Places
+pub mod Blocks
+pub mod Items
+pub mod Rules
