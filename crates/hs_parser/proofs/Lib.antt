@@ -1,0 +1,3 @@
+pub mod Popped
+pub mod Breaks
+pub mod Answered

@@ -1,0 +1,2 @@
+pub mod BreakRule
+pub mod Told

@@ -1,0 +1,12 @@
+//! The parser of the source language: the file that the tokens of a text are, or the rule and the place that are told of
+//! them.
+#![tactic(auto)]
+
+mod break_rule;
+mod parser;
+mod source;
+mod stack;
+#[cfg(test)]
+mod tests;
+
+pub use parser::{parse, unambiguous};
