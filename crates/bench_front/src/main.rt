@@ -1,8 +1,9 @@
 //! Checks made texts, so that the time and the memory of `check` can be measured.
 //!
-//! `bench_front KIND BYTES ROUNDS` makes an accepted text of nearly that many bytes and checks it that many times, and prints
-//! how many statements its program has. KIND is `comments`, `names`, `bindings` or `assignments`. Without arguments it checks
-//! a text of 2000 bytes of each kind once.
+//! `bench_front KIND BYTES ROUNDS` makes a text of nearly that many bytes and checks it that many times, and prints how many
+//! statements its program has, or the rule that is told. KIND is `comments`, `names`, `bindings` or `assignments`, texts that
+//! are accepted; or `functions`, many of them, `sum`, a long one, `nesting`, many expressions in 40 pairs of parentheses, or
+//! `list`, a long one, texts of the whole language. Without arguments it checks a text of 2000 bytes of each kind once.
 #![tactic(auto)]
 
 use hs_base::place::Stop;
@@ -12,6 +13,18 @@ use std::{env, io};
 
 /// A name of 64 bytes, as far as its last byte.
 const LONG: &[u8] = b"nnnnnnnnnnnnnnnnnnnnnnnnnnnnnnnnnnnnnnnnnnnnnnnnnnnnnnnnnnnnnnn";
+
+/// The kinds of texts.
+const KINDS: [&str; 8] = [
+    "comments",
+    "names",
+    "bindings",
+    "assignments",
+    "functions",
+    "sum",
+    "nesting",
+    "list",
+];
 
 fn repeat(text: &mut Vec<u8>, pattern: &[u8], times: usize) -> Result<(), AllocError> {
     for _ in 0..times {
@@ -46,6 +59,16 @@ fn long_names(alloc: Global) -> Result<Vec<u8>, AllocError> {
         statement.extend_from_slice(part)?;
     }
     statement.extend_from_slice(b"a; ")?;
+    Ok(statement)
+}
+
+/// A statement of 83 bytes, with 40 pairs of parentheses.
+fn parentheses(alloc: Global) -> Result<Vec<u8>, AllocError> {
+    let mut statement = Vec::new(alloc);
+    repeat(&mut statement, b"(", 40)?;
+    statement.extend_from_slice(b"1")?;
+    repeat(&mut statement, b")", 40)?;
+    statement.extend_from_slice(b"; ")?;
     Ok(statement)
 }
 
@@ -89,6 +112,16 @@ fn text_of(alloc: Global, kind: &str, length: usize) -> Result<Option<Vec<u8>>, 
             let head = b"fn f(a: u32) -> u32 { let mut x: u32 = a; ";
             filled(alloc, head, &sum(alloc, b"x =          a")?, b"x }", length)?
         }
+        "functions" => filled(
+            alloc,
+            b"",
+            b"fn f(a: u8) -> u8 { let b = a; b + 1 }\n",
+            b"",
+            length,
+        )?,
+        "sum" => filled(alloc, b"fn f() -> u32 { 1", b" + a[1]", b" }", length)?,
+        "nesting" => filled(alloc, b"fn f() { ", &parentheses(alloc)?, b"}", length)?,
+        "list" => filled(alloc, b"fn f() { g(1", b", a, &b", b") }", length)?,
         _ => return Ok(None),
     };
     Ok(Some(text))
@@ -103,7 +136,7 @@ fn statements(alloc: Global, text: &[u8]) -> Result<usize, Stop> {
     }
 }
 
-/// Prints how many statements the text's program has, after checking it so many times.
+/// Prints how many statements the text's program has, or the rule that is told, after checking it so many times.
 fn print_checked(
     rt: &impl Print,
     alloc: Global,
@@ -114,14 +147,15 @@ fn print_checked(
     let Ok(Some(text)) = text_of(alloc, kind, length) else {
         return println!(rt; "no text of {kind}");
     };
-    let mut count = 0;
+    let mut answer = Ok(0);
     for _ in 0..rounds {
-        match statements(alloc, &text) {
-            Ok(found) => count = found,
-            Err(_) => return println!(rt; "{kind} {length}: no program"),
-        }
+        answer = statements(alloc, &text);
     }
-    println!(rt; "{kind} {length}: {count} statements")
+    match answer {
+        Ok(count) => println!(rt; "{kind} {length}: {count} statements"),
+        Err(Stop::Broken(broken)) => println!(rt; "{kind} {length}: {}", broken.rule.code()),
+        Err(Stop::NoMemory) => println!(rt; "{kind} {length}: no memory"),
+    }
 }
 
 fn main(rt: HostRuntime) -> io::Result<()> {
@@ -135,7 +169,7 @@ fn main(rt: HostRuntime) -> io::Result<()> {
         let rounds = rounds.as_str().parse().unwrap_or(0);
         return print_checked(&rt, rt.alloc(), kind.as_str(), length, rounds);
     }
-    for kind in ["comments", "names", "bindings", "assignments"] {
+    for kind in KINDS {
         print_checked(&rt, rt.alloc(), kind, 2000, 1)?;
     }
     Ok(())

@@ -1,12 +1,12 @@
 -- The index of the latest locals, with one local more.
-use Rattle.std.proofs.Common.{◌≡◌, ℕ, Bool, true, false, cond, List, [], ◌∷◌, ◌++◌, map, length, bytes_eq, Option, Some, None, refl, sym, ap, ◌∙◌, subst}
+use Rattle.std.proofs.Common.{◌≡◌, ℕ, Bool, true, false, cond, List, [], ◌∷◌, ◌++◌, map, length, bytes_eq, Option, Some, refl, sym, ap, ◌∙◌}
 use Rattle.std.specs.Prelude.{reverse}
 use Rattle.std.specs.Option.{option_map}
 use Rattle.std.proofs.lemmas.List.{map-append, length-map, reverse-append, length-reverse}
 use Rattle.std.proofs.lemmas.Slice.Eq.{bytes_eq-Decides}
 use Rattle.hs_front.specs.declared.scope.Local as coded
 use Rattle.hs_front.specs.declared.scope.Found as latest
-use Rattle.hs_front.specs.Scope.{Scope, found}
+use Rattle.hs_front.specs.Scope.{found}
 use Rattle.hs_front.specs.Locals.{local_of, scope_of, pair_of}
 
 same_both : (v w : List ℕ) → bytes_eq v w ≡ bytes_eq w v

@@ -10,13 +10,15 @@ use Rattle.hs_grammar.specs.Whole.{ParseBreak}
 use Rattle.hs_lexer.specs.declared.token.Token.{Token}
 use Rattle.hs_lexer.specs.Places.{Placed}
 use Rattle.hs_lexer.specs.Lexes.{Lexes, LexBreak}
+use Rattle.hs_syntax.specs.declared.item.File.{File as Whole}
+use Rattle.hs_parser.specs.Told.{IsRead, Tells}
 use Rattle.hs_front.specs.declared.symbol.Symbol.{Symbol}
 use Rattle.hs_front.specs.declared.syntax.File.{File}
 use Rattle.hs_front.specs.Symbols.{symbols_of}
 use Rattle.hs_front.specs.Language.{AFile, written}
 use Rattle.hs_front.specs.Marks.{Mark, name_marks, type_marks, IsFirst}
 use Rattle.hs_front.specs.Program.{program_from}
-use Rattle.hs_front.specs.Told.{AcceptedBehind, Accepted, break_at, told_at, FileBreak, ToldBehind, Told}
+use Rattle.hs_front.specs.Told.{AcceptedBehind, AcceptedTokens, Accepted, break_at, told_at, FileBreak, ToldBehind, ToldTokens, Told}
 use Rattle.hs_front.specs.Walk.{Makes, Breaks as Marked, file_walk, Gives}
 use Rattle.hs_front.specs.Answers.{Only, IsMemory, OnlyBreak, IsBreak, OnBreak}
 use Rattle.hs_front.proofs.Walked.{IsHead, FileAgrees, file_agrees}
@@ -144,15 +146,43 @@ module _ (text : List ℕ) (tokens : List Token) (placed : Placed 0 (length text
   break_only at h b (inl (to, k, i)) = ap (break_at text tokens) (place_once (symbols_of text tokens) at to h k) ∙ sym i
   break_only at (rest, h, n) b (inr (f, d, m)) = absurd (apart (symbols_of text tokens) rest f h d)
 
+-- ---- the answer for the tokens
+
+-- what the parser answered
+abbrev Parsed : Type 0
+Parsed = Result Whole Stop
+
+abbrev parsed_ok : Whole → Parsed
+parsed_ok x = Ok x
+
+abbrev parsed_err : Stop → Parsed
+parsed_err s = Err s
+
+module _ (text : List ℕ) (tokens : List Token) where
+  -- a file of the whole language
+  pub whole_only_break : {A : Type 0} (r : Result A Stop) → ((b : Broken) → Tells text tokens b → ⊥) → ((b : Broken) → ToldBehind text tokens b → OnlyBreak b r)
+      → (b : Broken) → ToldTokens text tokens b → OnlyBreak b r
+  whole_only_break r none h b (inl t) = absurd (none b t)
+  whole_only_break r none h b (inr (w, t)) = h b t
+
+  -- none
+  pub none_only_break : (s : Stop) → ((x : Whole) → IsRead text tokens x → (parsed_err s ≡ parsed_ok x) ⊎ (parsed_err s ≡ parsed_err stop.NoMemory))
+      → ((b : Broken) → Tells text tokens b → (parsed_err s ≡ parsed_err (stop.Broken b)) ⊎ (parsed_err s ≡ parsed_err stop.NoMemory))
+      → (b : Broken) → ToldTokens text tokens b → IsBreak b s
+  none_only_break stop.NoMemory h k b t = tt
+  none_only_break (stop.Broken c) h k b (inl t) = elim (k b t) [ inl e ↦ cc | inr e ↦ absurd (cc) ]
+  none_only_break (stop.Broken c) h k b (inr ((x, r), t)) = elim (h x r) [ inl e ↦ absurd (cc) | inr e ↦ absurd (cc) ]
+
 -- ---- the answer for a text
 
 module _ (text : List ℕ) (one : (ts us : List Token) → Lexes text ts → Lexes text us → ts ≡ us)
     (lexed_apart : (ts : List Token) (b : Broken) → Lexes text ts → LexBreak text b → ⊥)
+    (read_apart : (ts : List Token) (x : Whole) (b : Broken) → IsRead text ts x → Tells text ts b → ⊥)
     (unique : (w : List Symbol) (x y : File) → DerivesAs written AFile w x → DerivesAs written AFile w y → x ≡ y)
     (apart : (w rest : List Symbol) (x : File) → Breaks written AFile w rest → DerivesAs written AFile w x → ⊥) where
   -- no text has two programs
   pub accepted_once : (p q : List tree.Function) → Accepted text p → Accepted text q → p ≡ q
-  accepted_once p q (ts, l, (f, d, n, t, e)) (us, k, (g, c, m, s, i)) =
+  accepted_once p q (ts, l, (w, (f, d, n, t, e))) (us, k, (v, (g, c, m, s, i))) =
       let same : us ≡ ts = one us ts k l in
       e ∙ (ap (program_from text) (unique (symbols_of text ts) f g d (subst (λ vs. DerivesAs written AFile (symbols_of text vs) g) same c)) ∙ sym i)
 
@@ -162,29 +192,30 @@ module _ (text : List ℕ) (one : (ts us : List Token) → Lexes text ts → Lex
 
   -- no rule is told of a text that is accepted
   pub accepted_apart : (p : List tree.Function) (b : Broken) → Accepted text p → Told text b → ⊥
-  accepted_apart p b (ts, l, (f, d, n, t, e)) (inl h) = lexed_apart ts b l h
-  accepted_apart p b (ts, l, (f, d, n, t, e)) (inr (us, k, inl (at, (rest, h, r), i))) =
+  accepted_apart p b (ts, l, (w, a)) (inl h) = lexed_apart ts b l h
+  accepted_apart p b (ts, l, ((x, r), a)) (inr (us, k, inl h)) = read_apart ts x b r (subst (λ vs. Tells text vs b) (one us ts k l) h)
+  accepted_apart p b (ts, l, (w, (f, d, n, t, e))) (inr (us, k, inr (v, inl (at, (rest, h, r), i)))) =
       apart (symbols_of text ts) rest f (subst (λ vs. Breaks written AFile (symbols_of text vs) rest) (one us ts k l) h) d
-  accepted_apart p b (ts, l, (f, d, n, t, e)) (inr (us, k, inr (g, c, (m, i, first)))) =
+  accepted_apart p b (ts, l, (w, (f, d, n, t, e))) (inr (us, k, inr (v, inr (g, c, (m, i, first))))) =
       let same : g ≡ f = unique (symbols_of text ts) g f (subst (λ vs. DerivesAs written AFile (symbols_of text vs) g) (one us ts k l) c) d in
       first_apart f m n t (subst (λ (q : File). IsFirst m (name_marks text q) ⊎ ((name_marks text q ≡ []) × IsFirst m (type_marks text q))) same first)
 
   module _ {A : Type 0} (of : A → List tree.Function) (ts : List Token) (l : Lexes text ts) where
-    pub behind_accepted : (r : Result A Stop) → IfOk r (λ p. AcceptedBehind text ts (of p)) → IfOk r (λ p. Accepted text (of p))
+    pub behind_accepted : (r : Result A Stop) → IfOk r (λ p. AcceptedTokens text ts (of p)) → IfOk r (λ p. Accepted text (of p))
     behind_accepted (Ok x) h = (ts, l, h)
     behind_accepted (Err e) h = tt
 
-    pub behind_told : (r : Result A Stop) → OnBreak r (ToldBehind text ts) → OnBreak r (Told text)
+    pub behind_told : (r : Result A Stop) → OnBreak r (ToldTokens text ts) → OnBreak r (Told text)
     behind_told (Ok x) h = tt
     behind_told (Err (stop.Broken b)) h = inr (ts, l, h)
     behind_told (Err stop.NoMemory) h = tt
 
-    pub behind_only : (r : Result A Stop) → ((p : List tree.Function) → AcceptedBehind text ts p → Only of p r) → (p : List tree.Function) → Accepted text p → Only of p r
-    behind_only r h p (us, k, a) = h p (subst (λ vs. AcceptedBehind text vs p) (one us ts k l) a)
+    pub behind_only : (r : Result A Stop) → ((p : List tree.Function) → AcceptedTokens text ts p → Only of p r) → (p : List tree.Function) → Accepted text p → Only of p r
+    behind_only r h p (us, k, a) = h p (subst (λ vs. AcceptedTokens text vs p) (one us ts k l) a)
 
-    pub behind_only_break : (r : Result A Stop) → ((b : Broken) → ToldBehind text ts b → OnlyBreak b r) → (b : Broken) → Told text b → OnlyBreak b r
+    pub behind_only_break : (r : Result A Stop) → ((b : Broken) → ToldTokens text ts b → OnlyBreak b r) → (b : Broken) → Told text b → OnlyBreak b r
     behind_only_break r h b (inl k) = absurd (lexed_apart ts b l k)
-    behind_only_break r h b (inr (us, k, a)) = h b (subst (λ vs. ToldBehind text vs b) (one us ts k l) a)
+    behind_only_break r h b (inr (us, k, a)) = h b (subst (λ vs. ToldTokens text vs b) (one us ts k l) a)
 
 -- ---- the answer for a text without tokens
 

@@ -1,5 +1,5 @@
 -- The locals in scope, as the code holds them: the latest last, and an index from names to the latest of each.
-use Rattle.std.specs.Prelude.{◌≡◌, ℕ, Bool, List, map, reverse, length, bytes_eq, Option, option_map}
+use Rattle.std.specs.Prelude.{◌≡◌, ℕ, Bool, List, map, reverse, bytes_eq, option_map}
 use denote.Ref.{Bor}
 use Rattle.indexmap.specs.IndexMap.{IndexMap, get_by}
 use Rattle.hs_front.specs.declared.scope.Local as coded

@@ -7,7 +7,7 @@ ghost use Rattle.hs_tree.specs.Features.{src};
 ghost use Rattle.hs_tree.specs.Sound.{Sound};
 ghost use Rattle.hs_tree.specs.Of.{program_of};
 ghost use Rattle.hs_tree.specs.Plain as tree;
-ghost use Rattle.hs_front.specs.Told.{Accepted, AcceptedBehind, Told, ToldBehind, break_at};
+ghost use Rattle.hs_front.specs.Told.{Accepted, AcceptedBehind, AcceptedTokens, Told, ToldBehind, ToldTokens, break_at};
 ghost use Rattle.hs_front.specs.Answers.{Only, OnlyBreak, OnBreak};
 
 use crate::parse::{Language, read};
@@ -19,6 +19,7 @@ use hs_base::rule::Rule;
 use hs_grammar::error::Refusal;
 use hs_grammar::grammar::exact;
 use hs_lexer::{Token, lex, place_behind};
+use hs_parser::{parse, unambiguous};
 use hs_tree::features::Src;
 use hs_tree::program::Program;
 use std::alloc::Global;
@@ -59,14 +60,33 @@ fn checked(alloc: Global, bytes: &[u8], tokens: &[Token]) -> Result<Program<Src>
     }
 }
 
+/// The program of a text with these tokens, which the whole language's grammar is to derive too.
+///
+/// Broken: what `parse` tells, and else what `checked` does.
+fn behind_tokens(alloc: Global, bytes: &[u8], tokens: &[Token]) -> Result<Program<Src>, Stop>
+    requires placed { Placed 0 (length bytes.now) tokens.now }
+    requires named { All (IsNamed bytes.now) tokens.now }
+    ensures accepted { IfOk result (λ p. AcceptedTokens bytes.now tokens.now (program_of p)) }
+    ensures sound { IfOk result (λ p. Sound src (program_of p)) }
+    ensures told { OnBreak result (ToldTokens bytes.now tokens.now) }
+    ensures only_program { (p : List tree.Function) → AcceptedTokens bytes.now tokens.now p → Only program_of p result }
+    ensures only_break { (b : Broken) → ToldTokens bytes.now tokens.now b → OnlyBreak b result }
+{
+    unambiguous();
+    parse(alloc, tokens, bytes)?;
+    checked(alloc, bytes, tokens)
+}
+
 /// The program of the text, exactly where the language accepts it.
 ///
 /// Broken: the text breaks a rule of the language, and the told one is answered. X1 to X6, S1 and S9 are told of its
-/// tokens, as `lex` tells them. G8 is told at the first token with which no file of the language goes on, or at the end of
-/// the text where it ends too early; a file has at most 32 parameters and 1,024 statements, a sum at most 61 `+`. Of a file
-/// the first name in the text that breaks a rule is told: N6, a parameter's name that stands before; N3, a name in a sum
-/// that is no local's in scope; N10, an assigned name that is none. Where there is none of these, T11 is told at the first
-/// assigned name whose local is not `mut`. `NoMemory` comes only for want of memory.
+/// tokens, as `lex` tells them. Then the grammar of the whole source language is looked at, and the limits on its file: G1 to
+/// G8, S2, S4, S6 and S8 are told as `parse` tells them. Of a file of the whole language G8 is told at the first token with
+/// which no file of the first language goes on, or at the end of the text where it ends too early; such a file has at most 32
+/// parameters and 1,024 statements, a sum at most 61 `+`. Of a file of the first language the first name in the text that
+/// breaks a rule is told: N6, a parameter's name that stands before; N3, a name in a sum that is no local's in scope; N10, an
+/// assigned name that is none. Where there is none of these, T11 is told at the first assigned name whose local is not `mut`.
+/// `NoMemory` comes only for want of memory, or where rules nest too deep, as `parse` says.
 pub fn check(alloc: Global, bytes: &[u8]) -> Result<Program<Src>, Stop>
     ensures accepted { IfOk result (λ p. Accepted bytes.now (program_of p)) }
     ensures sound { IfOk result (λ p. Sound src (program_of p)) }
@@ -77,8 +97,9 @@ pub fn check(alloc: Global, bytes: &[u8]) -> Result<Program<Src>, Stop>
     ensures apart { (p : List tree.Function) (b : Broken) → Accepted bytes.now p → Told bytes.now b → ⊥ }
 {
     exact::<Language>();
+    unambiguous();
     match lex(alloc, bytes) {
-        Ok(tokens) => checked(alloc, bytes, tokens.as_slice()),
+        Ok(tokens) => behind_tokens(alloc, bytes, tokens.as_slice()),
         Err(stop) => Err(stop),
     }
 }

@@ -153,40 +153,65 @@ fn tokens_are_told_first(rt: HostRuntime) {
 }
 
 #[test]
-fn the_grammar_is_told_before_names(rt: HostRuntime) {
+fn the_whole_grammar_is_told_before_the_first_language(rt: HostRuntime) {
     let table = [
+        ("use a;", Rule::G1, 5),
+        ("pub pub fn f() -> u32 { 1 }", Rule::G1, 5),
+        ("fn _() -> u32 { 1 }", Rule::G1, 4),
+        ("fn f(a: u32) - > u32 { a }", Rule::G1, 14),
+        ("fn f(a: u32, a: u32) -> u32 { a } fn", Rule::G2, 37),
+        ("fn f(a: u32) -> u32 { a - 1 } fn", Rule::G2, 33),
+        ("fn f(,) -> u32 { 1 }", Rule::G3, 6),
+        ("fn f(a: u32) -> u32 { (a - ; ) }", Rule::G3, 28),
+        ("fn f(a: u32) -> u32 { a[;] }", Rule::G4, 25),
+        ("fn f() -> u32 { \"a\" }", Rule::G5, 17),
+        ("fn f(a: u32) -> u32 { a + 1 = 2; a }", Rule::G5, 29),
+        ("fn f(a: u32) -> u32 { 1 = 2; a }", Rule::G5, 25),
+        ("fn f(a: u32) -> u32 { let b: u32 = a b }", Rule::G5, 38),
+        ("fn f(a: u32) -> u32 { let mut: u32 = a; a }", Rule::G5, 30),
+        (
+            "fn f(a: u32) -> u32 { let mut mut b: u32 = a; a }",
+            Rule::G5,
+            31,
+        ),
+        ("fn f(a: u32) -> u32 { a let }", Rule::G5, 25),
+        ("fn f(a: u32) -> u32 { b + }", Rule::G6, 27),
+        ("fn f(a: u32) -> u32 { a - 1) }", Rule::G6, 28),
+        ("fn f(a: u32) -> u32 { f!(a) }", Rule::G7, 24),
+        ("fn f(yield: u32) -> u32 { 1 }", Rule::G8, 6),
+        ("fn f(a: u32) -> u32 { a - while }", Rule::G8, 27),
+    ];
+    for (text, rule, col) in &table {
+        assert!(rt; is_told(rt.alloc(), text.as_bytes(), *rule, *col), "{text}");
+    }
+}
+
+#[test]
+fn the_first_language_is_told_before_names(rt: HostRuntime) {
+    let table = [
+        ("", 1),
         ("pub fn f(a: u32) -> u32 { a - 1 }", 29),
-        ("use a;", 1),
-        ("pub pub fn f() -> u32 { 1 }", 5),
         ("fn u64() -> u32 { 1 }", 4),
         ("fn u32() -> u32 { 1 }", 4),
         ("fn U128_from_U64() -> u32 { 1 }", 4),
-        ("fn _() -> u32 { 1 }", 4),
-        ("fn f(yield: u32) -> u32 { 1 }", 6),
-        ("fn f(,) -> u32 { 1 }", 6),
         ("fn f(a: u32,) -> u32 { a }", 13),
+        ("fn f(mut a: u32) -> u32 { a }", 6),
         ("fn f(a: u64) -> u32 { a }", 9),
-        ("fn f(a: u32) - > u32 { a }", 14),
         ("fn f(a: u32) -> u64 { a }", 17),
+        ("fn f(a: u32) { a }", 14),
         ("fn f() -> u32 { 4294967296 }", 17),
         ("fn f() -> u32 { 1u32 }", 17),
         ("fn f() -> u32 { 0x1 }", 17),
         ("fn f() -> u32 { 1_000 }", 17),
         ("fn f() -> u32 { 0o7 }", 17),
         ("fn f() -> u32 { 0b1 }", 17),
-        ("fn f() -> u32 { \"a\" }", 17),
         ("fn f(a: u32) -> u32 { }", 23),
         ("fn f(a: u32) -> u32 { a; }", 24),
         ("fn f(a: u32) -> u32 { a == 1; a }", 25),
         ("fn f(a: u32) -> u32 { a += 1; a }", 25),
-        ("fn f(a: u32) -> u32 { a + 1 = 2; a }", 29),
-        ("fn f(a: u32) -> u32 { 1 = 2; a }", 25),
-        ("fn f(a: u32) -> u32 { b + }", 27),
-        ("fn f(a: u32, a: u32) -> u32 { a } fn", 35),
-        ("fn f(a: u32) -> u32 { let b: u32 = a b }", 38),
-        ("fn f(a: u32) -> u32 { let mut: u32 = a; a }", 30),
-        ("fn f(a: u32) -> u32 { let mut mut b: u32 = a; a }", 31),
-        ("fn f(a: u32) -> u32 { a let }", 25),
+        ("fn f(a: u32) -> u32 { b - c }", 25),
+        ("fn f(a: u32) -> u32 { a } fn g() -> u32 { b }", 27),
+        ("use hacspec_lib::*;", 1),
     ];
     for (text, col) in &table {
         assert!(rt;
@@ -275,8 +300,8 @@ fn lines_and_columns_are_counted_from_one(rt: HostRuntime) {
             3,
             2,
         ),
-        (b"fn f(a: u32,\n\n)", Rule::G8, 14, 3, 1),
-        (b"fn f() -> u32 { 1\n", Rule::G8, 18, 2, 1),
+        (b"fn f(a: u32,\n\n)", Rule::G2, 15, 3, 2),
+        (b"fn f() -> u32 { 1\n", Rule::G2, 18, 2, 1),
         (b"// a\n", Rule::G8, 5, 2, 1),
     ];
     for (text, rule, byte, line, col) in &table {
@@ -287,10 +312,10 @@ fn lines_and_columns_are_counted_from_one(rt: HostRuntime) {
 const EVERY_FORM: &[u8] =
     b"pub fn f(a: u32, b: u32) -> u32 { let mut x: u32 = a + 1; x = x + b; x + 2 }";
 
-// Whether G8 is told at its end of the text that is left where it is cut behind so many bytes.
+// Whether G2 is told at its end of the text that is left where it is cut behind so many bytes.
 fn ends_too_early(alloc: Global, text: &[u8], length: u32) -> bool {
     let length = length as usize;
-    length < text.len() && is_told(alloc, &text[..length], Rule::G8, length as u64 + 1)
+    length < text.len() && is_told(alloc, &text[..length], Rule::G2, length as u64 + 1)
 }
 
 #[test]
@@ -301,7 +326,8 @@ fn a_cut_file_ends_too_early(rt: HostRuntime) -> Result<(), Fail> {
     assert_eq!(rt; tokens.len(), 35);
     assert!(rt; is_accepted(rt.alloc(), EVERY_FORM));
     for Token { start, end, .. } in tokens.as_slice() {
-        assert!(rt; ends_too_early(rt.alloc(), EVERY_FORM, *start));
+        let is_first = *start == 0;
+        assert!(rt; is_first || ends_too_early(rt.alloc(), EVERY_FORM, *start));
         let is_last = *end as usize == EVERY_FORM.len();
         assert!(rt; is_last || ends_too_early(rt.alloc(), EVERY_FORM, *end));
     }
@@ -345,53 +371,67 @@ fn repeated(
     Ok(text)
 }
 
-// Whether the text with so many of the part is accepted, and with one more G8 is told at this column.
+// Whether the text with so many of the part is accepted, and with one more this rule is told at this column.
 fn has_limit(
     alloc: Global,
-    head: &str,
-    part: &str,
+    (head, part, tail): (&str, &str, &str),
     most: usize,
-    tail: &str,
+    rule: Rule,
     col: u64,
 ) -> Result<bool, AllocError> {
     let longest = repeated(alloc, head, part, most, tail)?;
     let longer = repeated(alloc, head, part, most.saturating_add(1), tail)?;
-    Ok(is_accepted(alloc, longest.as_bytes()) && is_told(alloc, longer.as_bytes(), Rule::G8, col))
+    Ok(is_accepted(alloc, longest.as_bytes()) && is_told(alloc, longer.as_bytes(), rule, col))
 }
 
 #[test]
 fn statements_and_sums_have_their_limits(rt: HostRuntime) -> Result<(), Fail> {
     let table = [
         (
-            "fn f(a: u32) -> u32 { ",
-            "let b: u32 = a; ",
+            ("fn f(a: u32) -> u32 { ", "let b: u32 = a; ", "b }"),
             1024,
-            "b }",
+            Rule::S6,
             16407,
         ),
         (
-            "fn f(a: u32) -> u32 { let mut x: u32 = a; ",
-            "x = a; ",
+            (
+                "fn f(a: u32) -> u32 { let mut x: u32 = a; ",
+                "x = a; ",
+                "x }",
+            ),
             1023,
-            "x }",
-            7206,
+            Rule::S6,
+            7204,
         ),
-        ("fn f() -> u32 { 1", " + 1", 61, " }", 263),
-        ("fn f(a: u32) -> u32 { a", " + a", 61, " }", 269),
-        ("fn f() -> u32 { let x: u32 = 1", " + 1", 61, "; x }", 276),
+        // The sum has height 63, and the block 64.
+        (("fn f() -> u32 { 1", " + 1", " }"), 61, Rule::G8, 263),
+        (("fn f(a: u32) -> u32 { a", " + a", " }"), 61, Rule::G8, 269),
+        // The sum has height 63, the statement 64, and the block 65.
         (
-            "fn f() -> u32 { let mut x: u32 = 1; x = 1",
-            " + 1",
+            ("fn f() -> u32 { let x: u32 = 1", " + 1", "; x }"),
             61,
-            "; x }",
-            287,
+            Rule::S2,
+            15,
+        ),
+        (
+            ("fn f() -> u32 { let mut x: u32 = 1; x = 1", " + 1", "; x }"),
+            61,
+            Rule::S2,
+            15,
         ),
     ];
-    for (head, part, most, tail, col) in &table {
-        assert!(rt;
-            has_limit(rt.alloc(), head, part, *most, tail, *col)?,
-            "{head}"
-        );
+    for (text, most, rule, col) in &table {
+        assert!(rt; has_limit(rt.alloc(), *text, *most, *rule, *col)?, "{col}");
+    }
+    Ok(())
+}
+
+#[test]
+fn the_lowest_node_that_is_too_high_is_told(rt: HostRuntime) -> Result<(), Fail> {
+    // Of the value the sums have heights up to so many and one more.
+    for (count, col) in [(63, 15), (64, 17)] {
+        let text = repeated(rt.alloc(), "fn f() -> u32 { 1", " + 1", count, " }")?;
+        assert!(rt; is_told(rt.alloc(), text.as_bytes(), Rule::S2, col));
     }
     Ok(())
 }
@@ -412,7 +452,7 @@ fn parameters_have_their_limit(rt: HostRuntime) -> Result<(), Fail> {
     let longest = with_parameters(rt.alloc(), 42)?;
     assert!(rt; is_accepted(rt.alloc(), longest.as_bytes()));
     let longer = with_parameters(rt.alloc(), 43)?;
-    assert!(rt; is_told(rt.alloc(), longer.as_bytes(), Rule::G8, 324));
+    assert!(rt; is_told(rt.alloc(), longer.as_bytes(), Rule::S4, 326));
     Ok(())
 }
 

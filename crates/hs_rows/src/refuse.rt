@@ -57,14 +57,22 @@ fn tells_the_rule_and_the_place(rt: HostRuntime) -> Result<(), Fail> {
 #[test]
 fn tells_one_of_two(rt: HostRuntime) -> Result<(), Fail> {
     let table = [
-        // Tokens come before the grammar, the grammar before names, names before types.
+        // Tokens come before the grammar, the grammar before the first language, this before names, names before types.
         (
             "use a; $",
             "add.rs:1:8: X1 no token begins with this byte\n",
         ),
         (
+            "fn f(a: u32) -> u32 { a - 1 } }",
+            "add.rs:1:31: G6 this closing bracket cannot stand here\n",
+        ),
+        (
             "fn f(a: u32) -> u32 { b + }",
-            "add.rs:1:27: G8 this word is not part of HS-1\n",
+            "add.rs:1:27: G6 this closing bracket cannot stand here\n",
+        ),
+        (
+            "fn f(a: u32) -> u32 { b - 1 }",
+            "add.rs:1:25: G8 this word is not part of HS-1\n",
         ),
         (
             "fn f(a: u32) -> u32 { a = 1; b }",
@@ -92,20 +100,60 @@ fn tells_one_of_two(rt: HostRuntime) -> Result<(), Fail> {
 }
 
 #[test]
+fn tells_where_the_grammar_is_broken(rt: HostRuntime) -> Result<(), Fail> {
+    let table = [
+        (
+            "use a;",
+            "add.rs:1:5: G1 this token cannot stand here outside brackets\n",
+        ),
+        (
+            "fn f(a: ) -> u32 { a }",
+            "add.rs:1:9: G6 this closing bracket cannot stand here\n",
+        ),
+        (
+            "fn f(a u32) -> u32 { a }",
+            "add.rs:1:8: G3 this token cannot stand here in ( )\n",
+        ),
+        (
+            "fn f(a: u32) -> u32 { a[;] }",
+            "add.rs:1:25: G4 this token cannot stand here in [ ]\n",
+        ),
+        (
+            "fn f(a: u32) -> u32 { a b }",
+            "add.rs:1:25: G5 this token cannot stand here in { }\n",
+        ),
+        (
+            "fn f(a: u32) -> u32 { assert!(a) }",
+            "add.rs:1:29: G7 this macro is not part of HS-1\n",
+        ),
+        (
+            "fn f(a: u32) -> u32 { loop { a } }",
+            "add.rs:1:23: G8 this word is not part of HS-1\n",
+        ),
+    ];
+    for (source, line) in &table {
+        let left = call(rt.alloc(), PRINT, source.as_bytes())?;
+        assert!(rt; is_refused(&left, line), "{source}");
+    }
+    Ok(())
+}
+
+#[test]
 fn tells_the_end_of_a_file_cut_short(rt: HostRuntime) -> Result<(), Fail> {
     let table = [
+        // A file without items, which is none of the first language.
         ("", "add.rs:1:1: G8 this word is not part of HS-1\n"),
         (
             "fn f(a: u32) -> u32 { a",
-            "add.rs:1:24: G8 this word is not part of HS-1\n",
+            "add.rs:1:24: G2 the file ends too early\n",
         ),
         (
             "fn f(a: u32) -> u32 { a +\n",
-            "add.rs:2:1: G8 this word is not part of HS-1\n",
+            "add.rs:2:1: G2 the file ends too early\n",
         ),
         (
             "fn f(a: u32) -> u32 {\n  a // }",
-            "add.rs:2:9: G8 this word is not part of HS-1\n",
+            "add.rs:2:9: G2 the file ends too early\n",
         ),
     ];
     for (source, line) in &table {
@@ -152,7 +200,7 @@ fn takes_32_parameters(rt: HostRuntime) -> Result<(), Fail> {
     assert_eq!(rt; left.status, Status::Done);
     let source = with_parameters(rt.alloc(), 33)?;
     let left = call(rt.alloc(), PRINT, source.as_bytes())?;
-    let line = "add.rs:1:324: G8 this word is not part of HS-1\n";
+    let line = "add.rs:1:326: S4 limit passed: parameters\n";
     assert!(rt; is_refused(&left, line));
     Ok(())
 }
@@ -164,7 +212,7 @@ fn takes_1024_statements(rt: HostRuntime) -> Result<(), Fail> {
     assert_eq!(rt; left.status, Status::Done);
     let source = with_bindings(rt.alloc(), 1025)?;
     let left = call(rt.alloc(), PRINT, source.as_bytes())?;
-    let line = "add.rs:1:16407: G8 this word is not part of HS-1\n";
+    let line = "add.rs:1:16407: S6 limit passed: statements\n";
     assert!(rt; is_refused(&left, line));
     Ok(())
 }
@@ -174,9 +222,15 @@ fn takes_61_additions(rt: HostRuntime) -> Result<(), Fail> {
     let source = with_additions(rt.alloc(), 61)?;
     let left = call(rt.alloc(), PRINT, source.as_bytes())?;
     assert_eq!(rt; left.status, Status::Done);
-    let source = with_additions(rt.alloc(), 62)?;
-    let left = call(rt.alloc(), PRINT, source.as_bytes())?;
-    let line = "add.rs:1:269: G8 this word is not part of HS-1\n";
-    assert!(rt; is_refused(&left, line));
+    // With 62 the block has height 64, with 63 it has 65, with 64 the sum has 65.
+    for (count, line) in [
+        (62, "add.rs:1:269: G8 this word is not part of HS-1\n"),
+        (63, "add.rs:1:21: S2 limit passed: nesting\n"),
+        (64, "add.rs:1:23: S2 limit passed: nesting\n"),
+    ] {
+        let source = with_additions(rt.alloc(), count)?;
+        let left = call(rt.alloc(), PRINT, source.as_bytes())?;
+        assert!(rt; is_refused(&left, line));
+    }
     Ok(())
 }

@@ -1,4 +1,4 @@
-use Rattle.std.proofs.Common.{◌≡◌, ℕ, List, sym, ap, ◌∙◌}
+use Rattle.std.proofs.Common.{ℕ, List}
 use denote.Ref.{Bor}
 use Rattle.hs_front.proofs.Latest.{found_more}
 use Rattle.hs_front.proofs.scope.Scope.bind.Goals as goal
