@@ -11,6 +11,7 @@ use Rattle.hs_syntax.specs.declared.exp.BinaryOp.{BinaryOp}
 use Rattle.hs_syntax.specs.declared.exp.PrefixOp.{PrefixOp}
 use Rattle.hs_syntax.specs.declared.exp.PrefixOp.TheVariants as prefix
 use Rattle.hs_syntax.specs.declared.exp.Target.{Target}
+use Rattle.hs_syntax.specs.declared.exp.Variable.{Variable}
 use Rattle.hs_syntax.specs.declared.exp.Arg.TheOpen.{Exp-F, Postfix-F, Stmt-F}
 use Rattle.hs_syntax.specs.declared.exp.Arg.TheOpen as layer
 use Rattle.hs_syntax.specs.declared.exp.Exp.{Exp, out-Exp}
@@ -91,7 +92,7 @@ is_place e = is_some (place_in e)
 abbrev pub let_of : Span → Pat → Option Ty → Exp → Span → Stmt
 let_of word p t e close = stmt.Let (across word close) p t e
 
-abbrev pub for_of : Span → Option Span → Exp → Exp → Block → Stmt
+abbrev pub for_of : Span → Variable → Exp → Exp → Block → Stmt
 for_of word x low high body = stmt.For (across word (span_of_block body)) x low high body
 
 abbrev pub return_of : Span → Option Exp → Span → Stmt

@@ -15,6 +15,8 @@ use Rattle.hs_syntax.specs.declared.exp.Path.{Path}
 use Rattle.hs_syntax.specs.declared.exp.Path.TheVariants as path
 use Rattle.hs_syntax.specs.declared.exp.BinaryOp.{BinaryOp}
 use Rattle.hs_syntax.specs.declared.exp.Target.{Target}
+use Rattle.hs_syntax.specs.declared.exp.Variable.{Variable}
+use Rattle.hs_syntax.specs.declared.exp.Variable.TheVariants as variable
 use Rattle.hs_syntax.specs.declared.exp.Exp.{Exp}
 use Rattle.hs_syntax.specs.declared.exp.Exp.TheVariants as exp
 use Rattle.hs_syntax.specs.declared.exp.Operand.{Operand}
@@ -409,13 +411,13 @@ let_form =
     (pattern & (optional (word k.Colon >> type_) & (word k.Equals >> (expression & at k.Semicolon))))
 
 -- NAME | '_'
-unfoldable pub loop_variable : F (Option Span)
-loop_variable = Alt (Map (λ _. None) (word k.Underscore)) (Map (λ n. Some n) name)
+unfoldable pub loop_variable : F Variable
+loop_variable = Alt (Map variable.Any (at k.Underscore)) (Map variable.Name name)
 
 -- 'for' (NAME | '_') 'in' Exp '..' Exp Block
 unfoldable pub for_form : F Piece
 for_form =
-    Seq (λ s (r : Option Span × (Exp × (Exp × Block))). piece.Statement (for_of s r.0 r.1.0 r.1.1.0 r.1.1.1)) (at k.For)
+    Seq (λ s (r : Variable × (Exp × (Exp × Block))). piece.Statement (for_of s r.0 r.1.0 r.1.1.0 r.1.1.1)) (at k.For)
     (loop_variable & (word k.In >> (expression & (word k.DotDot >> (expression & block)))))
 
 -- what stands behind 'return': ';' | Exp ';'

@@ -13,6 +13,7 @@ use Rattle.hs_syntax.specs.declared.exp.Path.{Path}
 use Rattle.hs_syntax.specs.declared.exp.Path.TheVariants as path
 use Rattle.hs_syntax.specs.declared.exp.BinaryOp.{BinaryOp}
 use Rattle.hs_syntax.specs.declared.exp.Target.{Target}
+use Rattle.hs_syntax.specs.declared.exp.Variable.{Variable}
 use Rattle.hs_syntax.specs.declared.exp.Exp.{Exp}
 use Rattle.hs_syntax.specs.declared.exp.Exp.TheVariants as exp
 use Rattle.hs_syntax.specs.declared.exp.Postfix.{Postfix}
@@ -255,7 +256,7 @@ assign_stmt =
 -- 'for' (NAME | '_') 'in' Exp '..' Exp Block
 unfoldable pub for_stmt : F Stmt
 for_stmt =
-    Seq (λ s (r : Option Span × (Exp × (Exp × Block))). for_of s r.0 r.1.0 r.1.1.0 r.1.1.1) (at k.For)
+    Seq (λ s (r : Variable × (Exp × (Exp × Block))). for_of s r.0 r.1.0 r.1.1.0 r.1.1.1) (at k.For)
     (loop_variable & (word k.In >> (expression & (word k.DotDot >> (expression & block)))))
 
 -- 'return' Exp? ';'

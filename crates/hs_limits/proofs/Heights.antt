@@ -1,5 +1,5 @@
 -- The heights of nodes are those of expressions, statements and blocks.
-use Rattle.std.proofs.Common.{ℕ, suc, ◌+◌, ◌≡◌, refl, sym, ◌∙◌, ap, subst, max, Option, Some, None, option_map, List, [], ◌∷◌, map, length, fold, arith}
+use Rattle.std.proofs.Common.{ℕ, suc, ◌+◌, ◌≡◌, refl, sym, ◌∙◌, ap, subst, max, Option, Some, None, List, [], ◌∷◌, map, length, fold, arith}
 use Rattle.hs_syntax.specs.declared.span.Span.{Span}
 use Rattle.hs_syntax.specs.declared.ty.Ty.{Ty, out-Ty}
 use Rattle.hs_syntax.specs.declared.ty.Ty.TheOpen.{Ty-F}
@@ -26,7 +26,7 @@ use Rattle.hs_syntax.specs.declared.exp.Arg.TheViews.{roll-Exp, roll-Arg, roll-P
 use Rattle.hs_syntax.specs.declared.exp.Arg.TheFolds.{map-Exp, map-Arg, map-Postfix, map-Stmt, map-Arm, map-Block, map-Operand, fold-roll-Exp, fold-roll-Arg, fold-roll-Postfix, fold-roll-Stmt, fold-roll-Arm, fold-roll-Block, fold-roll-Operand, ind-Exp, ind-Stmt, ind-Block}
 use Rattle.hs_syntax.specs.Height as high
 use Rattle.hs_syntax.specs.Height.{height_of, arg_height, postfix_height, stmt_height, arm_height, block_height, operand_height, greatest, chained, above, or_none}
-use Rattle.hs_limits.specs.Outline.{Outline, Node, Kind, Surplus, join, node, counted, apart, part, statement, rise, one, maybe, all, numbered, chain, height}
+use Rattle.hs_limits.specs.Outline.{Outline, Node, Kind, Surplus, join, node, counted, apart, part, statement, rise, one, all, numbered, chain, height}
 use Rattle.hs_limits.specs.Nodes.{word, node_of_ty, ty_layer, optional_ty, pat_layer, node_of_exp, node_of_arg, node_of_postfix, node_of_stmt, node_of_arm, node_of_block, node_of_operand, node_of_path, node_of_arm_pat, node_of_pat, arg_layer, exp_layer, postfix_layer, stmt_layer, arm_layer, block_layer, operand_layer}
 
 fold_max : (h : ℕ) (hs : List ℕ) → fold max h hs ≡ max h (greatest hs)
@@ -133,10 +133,6 @@ arm_pat_height (arm_pat.Any s) = refl
 arm_pat_height (arm_pat.Ctor s n ps) = refl
 arm_pat_height (arm_pat.Member s t n ps) = refl
 
-variable_height : (x : Option Span) → height (maybe (option_map word x)) ≡ 0
-variable_height None = refl
-variable_height (Some s) = refl
-
 abbrev exp_inside : Exp-F A E P S R B O → Exp-F Arg Exp Postfix Stmt Arm Block Operand
 exp_inside y = map-Exp A E P S R B O Arg Exp Postfix Stmt Arm Block Operand (λ x. x.0) (λ x. x.0) (λ x. x.0) (λ x. x.0) (λ x. x.0) (λ x. x.0) (λ x. x.0) y
 
@@ -205,7 +201,7 @@ stmt_heights y = map-Stmt Arg Exp Postfix Stmt Arm Block Operand ℕ ℕ ℕ ℕ
 stmt_same : (y : Stmt-F A E P S R B O) → height (one (stmt_layer (stmt_nodes (stmt_inside y)))) ≡ high.stmt_layer (stmt_heights (stmt_inside y))
 stmt_same (exp.Let s p t e) = let k = pat_height p in let l = optional_height t in omega (arith, k, l, e.1)
 stmt_same (exp.Assign s t ps o e) = let k = all_heights Postfix node_of_postfix postfix_height ps in omega (arith, k, e.1)
-stmt_same (exp.For s x e f b) = let k = variable_height x in omega (arith, k, e.1, f.1, b.1)
+stmt_same (exp.For s x e f b) = omega (arith, e.1, f.1, b.1)
 stmt_same (exp.Return s None) = refl
 stmt_same (exp.Return s (Some e)) = ap suc e.1
 stmt_same (exp.Bare e) = ap suc e.1

@@ -1,5 +1,6 @@
 pub mod Nested
 pub mod Nodes
 pub mod Outline
+pub mod Spans
 pub mod Told
 pub mod Walk

@@ -26,7 +26,7 @@ use Rattle.hs_syntax.specs.declared.item.Ctor.{Ctor}
 use Rattle.hs_syntax.specs.declared.item.Param.{Param}
 use Rattle.hs_syntax.specs.declared.item.ItemKind.{ItemKind}
 use Rattle.hs_syntax.specs.declared.item.ItemKind.TheVariants as item
-use Rattle.hs_syntax.specs.Spans.{span_of_path}
+use Rattle.hs_syntax.specs.Spans.{span_of_path, span_of_variable}
 use Rattle.hs_limits.specs.Outline.{Outline, Node, none, join, counted, through, apart, parameter, statement, part, one, maybe, all, upto, chain}
 
 -- an expression, a statement or a block
@@ -119,7 +119,7 @@ postfix_layer (exp.Part s i) = wrap s (name i.span)
 abbrev pub stmt_layer : Stmt-F Node Node Node Node Node Node Node → Node
 stmt_layer (exp.Let s p t e) = tall s (join (one (node_of_pat p)) (join (optional_ty t) (one e)))
 stmt_layer (exp.Assign s t ps o e) = tall s (join (one (wrap t.span (join (name t.name) (all ps)))) (one e))
-stmt_layer (exp.For s x e f b) = tall s (join (maybe (option_map word x)) (join (one e) (join (one f) (one b))))
+stmt_layer (exp.For s x e f b) = tall s (join (name (span_of_variable x)) (join (one e) (join (one f) (one b))))
 stmt_layer (exp.Return s e) = tall s (maybe e)
 stmt_layer (exp.Bare e) = tall e.at (one e)
 stmt_layer (exp.Exp s e) = tall s (one e)

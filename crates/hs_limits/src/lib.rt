@@ -1,6 +1,7 @@
 //! Which trees keep the limits on heights and lengths, and which limit is told of one that does not.
 #![tactic(auto)]
 
+mod agree;
 mod flat;
 mod items;
 mod passed;
@@ -8,5 +9,6 @@ mod passed;
 mod tests;
 mod walk;
 
+pub use agree::spans_agree;
 pub use items::limits;
 pub use passed::Passed;

@@ -18,7 +18,7 @@ use hs_forms::{Kind, Piece, Token, across, at, name};
 use hs_grammar::cursor::Tokens;
 use hs_grammar::error::ParseError;
 use hs_parse_types::{pattern, ty};
-use hs_syntax::{BinaryOp, Block, Exp, Span, Stmt, Ty};
+use hs_syntax::{BinaryOp, Block, Exp, Span, Stmt, Ty, Variable};
 use std::alloc::Global;
 
 /// The kinds of `=` and its like.
@@ -70,14 +70,13 @@ impl<
 
     /// NAME | '_'
     #[tactic(auto, unfolding(hs_forms::specs::Grammar::loop_variable, hs_forms::specs::Grammar::name))]
-    fn loop_variable(&self, tokens: &mut Tokens<'_, Token>) -> Result<Option<Span>, ParseError>
+    fn loop_variable(&self, tokens: &mut Tokens<'_, Token>) -> Result<Variable, ParseError>
         ensures { Reads (reads self.now.rules.depth g.loop_variable tokens.old) result tokens.new }
     {
         if tokens.is_at(Kind::Underscore) {
-            tokens.expect(Kind::Underscore)?;
-            return Ok(None);
+            return Ok(Variable::Any(at(tokens, Kind::Underscore)?));
         }
-        Ok(Some(name(tokens)?))
+        Ok(Variable::Name(name(tokens)?))
     }
 
     /// 'for' (NAME | '_') 'in' Exp '..' Exp Block

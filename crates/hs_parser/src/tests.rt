@@ -4,7 +4,7 @@ use crate::parser::parse;
 use hs_base::place::{Broken, Stop};
 use hs_base::rule::Rule;
 use hs_lexer::lex;
-use hs_syntax::File;
+use hs_syntax::{File, ItemKind, Span, Stmt, Variable};
 use std::alloc::{AllocError, Global};
 use std::test::Fail;
 
@@ -96,6 +96,35 @@ fn is_told_inside(alloc: Global, body: &str, rule: Rule, col: u64) -> bool {
     match in_function(alloc, body) {
         Ok(text) => is_told(alloc, text.as_bytes(), rule, col),
         Err(_) => false,
+    }
+}
+
+// The variable of the loop with which a text's first function begins.
+fn loop_variable(alloc: Global, text: &[u8]) -> Option<Variable> {
+    let file = file_of(alloc, text).ok()?;
+    match &file.items.as_slice().first()?.kind {
+        ItemKind::Fn(_, _, _, body) => match body.statements.as_slice().first()? {
+            Stmt::For(_, variable, _, _, _) => Some(*variable),
+            _ => None,
+        },
+        _ => None,
+    }
+}
+
+#[test]
+fn loops_have_the_place_of_their_variable(rt: HostRuntime) {
+    let table = [
+        (
+            "fn f() { for i in 0..1 { } }",
+            Variable::Name(Span { start: 13, end: 14 }),
+        ),
+        (
+            "fn f() { for /* _ */ _ in 0..1 { } }",
+            Variable::Any(Span { start: 21, end: 22 }),
+        ),
+    ];
+    for (text, variable) in &table {
+        assert_eq!(rt; loop_variable(rt.alloc(), text.as_bytes()), Some(*variable));
     }
 }
 

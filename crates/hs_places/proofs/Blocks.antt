@@ -6,11 +6,12 @@ use Rattle.hs_syntax.specs.declared.ty.Ty.{Ty}
 use Rattle.hs_syntax.specs.declared.pat.Pat.{Pat}
 use Rattle.hs_syntax.specs.declared.exp.BinaryOp.{BinaryOp}
 use Rattle.hs_syntax.specs.declared.exp.Target.{Target}
+use Rattle.hs_syntax.specs.declared.exp.Variable.{Variable}
 use Rattle.hs_syntax.specs.declared.exp.Exp.{Exp}
 use Rattle.hs_syntax.specs.declared.exp.Postfix.{Postfix}
 use Rattle.hs_syntax.specs.declared.exp.Stmt.{Stmt}
 use Rattle.hs_syntax.specs.declared.exp.Block.{Block}
-use Rattle.hs_syntax.specs.Spans.{span_of_exp, span_of_block}
+use Rattle.hs_syntax.specs.Spans.{span_of_exp, span_of_block, span_of_variable}
 use Rattle.hs_forms.specs.declared.token.Kind.TheVariants as k
 use Rattle.hs_forms.specs.declared.piece.Piece.{Piece}
 use Rattle.hs_forms.specs.declared.piece.Piece.TheVariants as piece
@@ -21,7 +22,7 @@ use Rattle.hs_forms.specs.Grammar.{rules, let_form, loop_variable, for_form, ret
 use Rattle.hs_limits.specs.Outline.{join, one, maybe, all, upto, counted, statement}
 use Rattle.hs_limits.specs.Nodes.{word, name, wrap, optional_ty, node_of_ty, node_of_pat, node_of_exp, node_of_postfix, node_of_stmt, node_of_block}
 use Rattle.hs_limits.specs.Nested.{Nested}
-use Rattle.hs_limits.proofs.At.{exp_at, block_at}
+use Rattle.hs_limits.specs.Spans.{SpansAgree}
 use Rattle.hs_places.proofs.Outlines.{wide, beyond, begun, opened, held, around, until, start_of, ordered, upto_nested}
 use Rattle.hs_places.proofs.Layers.{on, stmt_let, stmt_assign, stmt_for, stmt_return, stmt_bare, stmt_exp, block_is}
 use Rattle.hs_places.proofs.Facts.{Fact, nodes, spans, nothing, pair, perhaps, Perhaps, perhaps_nested, rows, Row, row_nested, Turn, closes}
@@ -41,6 +42,10 @@ Lies low high (piece.Tail e) = Nested (one (node_of_exp e)) low high
 lies_wider : (low high lower higher : ℕ) (x : Piece) → lower ≤ low → high ≤ higher → Lies low high x → Lies lower higher x
 lies_wider low high lower higher (piece.Statement s) l h p = wide (one (node_of_stmt s)) low high lower higher l h p
 lies_wider low high lower higher (piece.Tail e) l h p = wide (one (node_of_exp e)) low high lower higher l h p
+
+-- the variable of a loop
+abbrev variables : Fact Variable
+variables = nodes (λ x. word (span_of_variable x))
 
 -- a piece of a block
 abbrev pieces_of : Fact Piece
@@ -66,13 +71,13 @@ let_nested low a b c d high s p t e close first q r x last =
     (opened (across s close) counted s (join (one (node_of_pat p)) (join (optional_ty t) (one (node_of_exp e)))) low a high refl first
     (b, q, (c, perhaps_nested node_of_ty t b c r, beyond (one (node_of_exp e)) c d close.end (closes close d high last) x)) last.2)
 
-for_nested : (low a b c d high : ℕ) (s : Span) (x : Option Span) (e f : Exp) (body : Block) → Nested (name s) low a → Perhaps spans a b x → Nested (one (node_of_exp e)) b c → Nested (one (node_of_exp f)) c d → Nested (one (node_of_block body)) d high
+for_nested : SpansAgree → (low a b c d high : ℕ) (s : Span) (x : Variable) (e f : Exp) (body : Block) → Nested (name s) low a → Nested (name (span_of_variable x)) a b → Nested (one (node_of_exp e)) b c → Nested (one (node_of_exp f)) c d → Nested (one (node_of_block body)) d high
     → Nested (one (node_of_stmt (for_of s x e f body))) low high
-for_nested low a b c d high s x e f body first p q r last =
-    let u = until (node_of_block body) (span_of_block body) d high (block_at body) last in
+for_nested agree low a b c d high s x e f body first p q r last =
+    let u = until (node_of_block body) (span_of_block body) d high (agree.of_block body) last in
     on (stmt_for (across s (span_of_block body)) x e f body)
-    (opened (across s (span_of_block body)) counted s (join (maybe (option_map word x)) (join (one (node_of_exp e)) (join (one (node_of_exp f)) (one (node_of_block body))))) low a high refl first
-    (b, perhaps_nested word x a b p, (c, q, (d, r, u.0))) u.1)
+    (opened (across s (span_of_block body)) counted s (join (name (span_of_variable x)) (join (one (node_of_exp e)) (join (one (node_of_exp f)) (one (node_of_block body))))) low a high refl first
+    (b, p, (c, q, (d, r, u.0))) u.1)
 
 return_nested : (low a b high : ℕ) (s : Span) (e : Option Exp) (close : Span) → Nested (name s) low a → Perhaps exps a b e → Nested (name close) b high → Nested (one (node_of_stmt (return_of s e close))) low high
 return_nested low a b high s e close first p last =
@@ -80,22 +85,22 @@ return_nested low a b high s e close first p last =
     (opened (across s close) counted s (maybe (option_map node_of_exp e)) low a high refl first
     (beyond (maybe (option_map node_of_exp e)) a b close.end (closes close b high last) (perhaps_nested node_of_exp e a b p)) last.2)
 
-exp_stmt_nested : (low m high : ℕ) (e : Exp) (close : Span) → Nested (one (node_of_exp e)) low m → Nested (name close) m high → Nested (one (node_of_stmt (exp_stmt_of e close))) low high
-exp_stmt_nested low m high e close p c =
+exp_stmt_nested : SpansAgree → (low m high : ℕ) (e : Exp) (close : Span) → Nested (one (node_of_exp e)) low m → Nested (name close) m high → Nested (one (node_of_stmt (exp_stmt_of e close))) low high
+exp_stmt_nested agree low m high e close p c =
     on (stmt_exp (across (span_of_exp e) close) e)
-    (held (across (span_of_exp e) close) counted (node_of_exp e) low m high (start_of (node_of_exp e) (span_of_exp e) (exp_at e)) p (closes close m high c) c.2)
+    (held (across (span_of_exp e) close) counted (node_of_exp e) low m high (start_of (node_of_exp e) (span_of_exp e) (agree.of_exp e)) p (closes close m high c) c.2)
 
-alone_nested : (low m high : ℕ) (e : Exp) (o : Option Span) → Nested (one (node_of_exp e)) low m → Perhaps spans m high o → Nested (one (node_of_stmt (alone_of e o))) low high
-alone_nested low m high e None p l = on (stmt_bare e) (around (node_of_exp e).at counted (node_of_exp e) low high refl (beyond (one (node_of_exp e)) low m high l p))
-alone_nested low m high e (Some close) p c = exp_stmt_nested low m high e close p c
+alone_nested : SpansAgree → (low m high : ℕ) (e : Exp) (o : Option Span) → Nested (one (node_of_exp e)) low m → Perhaps spans m high o → Nested (one (node_of_stmt (alone_of e o))) low high
+alone_nested agree low m high e None p l = on (stmt_bare e) (around (node_of_exp e).at counted (node_of_exp e) low high refl (beyond (one (node_of_exp e)) low m high l p))
+alone_nested agree low m high e (Some close) p c = exp_stmt_nested agree low m high e close p c
 
-assign_nested : (start low m high : ℕ) (e : Exp) (place : Option (Target × List Postfix)) (o : Option BinaryOp) (right : Exp) (close : Span) → place_in e ≡ place
+assign_nested : SpansAgree → (start low m high : ℕ) (e : Exp) (place : Option (Target × List Postfix)) (o : Option BinaryOp) (right : Exp) (close : Span) → place_in e ≡ place
     → Nested (one (node_of_exp e)) start low → Nested (one (node_of_exp right)) low m → Nested (name close) m high → Nested (one (node_of_stmt (assign_to e place o right close))) start high
-assign_nested start low m high e None o right close i p q c =
-    exp_stmt_nested start m high e close (beyond (one (node_of_exp e)) start low m (ordered (one (node_of_exp right)) low m q) p) c
-assign_nested start low m high e (Some (t, ps)) o right close i p q c =
+assign_nested agree start low m high e None o right close i p q c =
+    exp_stmt_nested agree start m high e close (beyond (one (node_of_exp e)) start low m (ordered (one (node_of_exp right)) low m q) p) c
+assign_nested agree start low m high e (Some (t, ps)) o right close i p q c =
     on (stmt_assign (across t.span close) t ps o right)
-    (begun (across t.span close) counted (wrap t.span (join (name t.name) (all (map node_of_postfix ps)))) (one (node_of_exp right)) start low high refl (place_nested e t ps start low i p)
+    (begun (across t.span close) counted (wrap t.span (join (name t.name) (all (map node_of_postfix ps)))) (one (node_of_exp right)) start low high refl (place_nested agree e t ps start low i p)
     (beyond (one (node_of_exp right)) low m close.end (closes close m high c) q) c.2)
 
 -- ---- blocks
@@ -133,14 +138,14 @@ module _ (ρ : Derivings lexis rules) (knots : Knots ρ) where
       seq ρ (λ low m high s r p q. let_nested low m q.0 q.2.0 q.2.2.0 high s r.0 r.1.0 r.1.1.0 r.1.1.1 p q.1 q.2.1 q.2.2.1 q.2.2.2) (span ρ refl)
       (both ρ (pattern_gives ρ knots) (both ρ (may ρ (then_ ρ (type_gives ρ knots))) (then_ ρ (both ρ (expression_gives ρ knots) (span ρ refl)))))
 
-  loop_variable_gives : Gives ρ loop_variable (perhaps spans)
-  unfolding loop_variable
-  loop_variable_gives = alt ρ (map_to ρ {P = nothing} (λ low high u l. l) (none_kept ρ)) (map_to ρ (λ low high n p. p) (name_gives ρ knots))
+  loop_variable_gives : Gives ρ loop_variable variables
+  unfolding loop_variable span_of_variable
+  loop_variable_gives = alt ρ (map_to ρ (λ low high s p. p) (span ρ {ks = k.Underscore ∷ []} refl)) (map_to ρ (λ low high n p. p) (name_gives ρ knots))
 
   for_form_gives : Gives ρ for_form pieces_of
   unfolding for_form
   for_form_gives =
-      seq ρ (λ low m high s r p q. for_nested low m q.0 q.2.0 q.2.2.0 high s r.0 r.1.0 r.1.1.0 r.1.1.1 p q.1 q.2.1 q.2.2.1 q.2.2.2) (span ρ refl)
+      seq ρ (λ low m high s r p q. for_nested knots.agree low m q.0 q.2.0 q.2.2.0 high s r.0 r.1.0 r.1.1.0 r.1.1.1 p q.1 q.2.1 q.2.2.1 q.2.2.2) (span ρ refl)
       (both ρ loop_variable_gives (then_ ρ (both ρ (expression_gives ρ knots) (then_ ρ (both ρ (expression_gives ρ knots) (block_gives ρ knots))))))
 
   returned_gives : Gives ρ returned (pair (perhaps exps) spans)
@@ -155,18 +160,18 @@ module _ (ρ : Derivings lexis rules) (knots : Knots ρ) where
 
   alone_form_gives : Gives ρ alone_form pieces_of
   unfolding alone_form
-  alone_form_gives = seq ρ alone_nested (alone_gives ρ knots) (may ρ (span ρ {ks = k.Semicolon ∷ []} refl))
+  alone_form_gives = seq ρ (alone_nested knots.agree) (alone_gives ρ knots) (may ρ (span ρ {ks = k.Semicolon ∷ []} refl))
 
   assigned_gives : Gives ρ assigned pieces_after
   unfolding assigned
   assigned_gives =
-      seq ρ {P = nothing} (λ low m high o r l q e start p. assign_nested start m q.0 high e (place_in e) o r.0 r.1 refl (beyond (one (node_of_exp e)) start low m l p) q.1 q.2) (none_kept ρ)
+      seq ρ {P = nothing} (λ low m high o r l q e start p. assign_nested knots.agree start m q.0 high e (place_in e) o r.0 r.1 refl (beyond (one (node_of_exp e)) start low m l p) q.1 q.2) (none_kept ρ)
       (both ρ (expression_gives ρ knots) (span ρ refl))
 
   finished_gives : Gives ρ finished pieces_after
   unfolding finished
   finished_gives =
-      alt ρ (map_to ρ (λ low high close c e start p. exp_stmt_nested start low high e close p c) (span ρ {ks = k.Semicolon ∷ []} refl))
+      alt ρ (map_to ρ (λ low high close c e start p. exp_stmt_nested knots.agree start low high e close p c) (span ρ {ks = k.Semicolon ∷ []} refl))
       (empty ρ (λ low high l e start p. beyond (one (node_of_exp e)) start low high l p))
 
   behind_place_gives : Gives ρ behind_place pieces_after

@@ -28,7 +28,7 @@ use Rattle.hs_forms.specs.Grammar.{rules, F, RExp, RUnary, RBlock, RIf, RMaybe, 
 use Rattle.hs_limits.specs.Outline.{none, join, one, all, counted, through, apart, part}
 use Rattle.hs_limits.specs.Nodes.{word, name, tall, ty_outline, node_of_ty, node_of_arm_pat, node_of_path, node_of_exp, node_of_arg, node_of_postfix, node_of_arm, node_of_block, node_of_operand}
 use Rattle.hs_limits.specs.Nested.{Nested}
-use Rattle.hs_limits.proofs.At.{exp_at, postfix_at, block_at, operand_at}
+use Rattle.hs_limits.specs.Spans.{SpansAgree}
 use Rattle.hs_places.proofs.Outlines.{before, beyond, begun, opened, around, until, start_of}
 use Rattle.hs_places.proofs.Layers.{on, exp_int, exp_bool, exp_unit, exp_group, exp_tuple, exp_path, exp_call, exp_block, exp_if, exp_match, exp_post, exp_prefix, exp_cast, exp_binary, arg_value, arg_shared, arg_lent, arg_list, postfix_try, postfix_method, postfix_index, postfix_part, arm_is, operand_is}
 use Rattle.hs_places.proofs.Facts.{row_more, Fact, nodes, spans, nothing, by, pair, perhaps, Perhaps, rows, Row, row_nested, Turn, after, listed_in, tuple_in, closes, chained}
@@ -68,9 +68,9 @@ path_nested low m high n (Some f) p h = h n low p
 lent_nested : (low high : ℕ) (n s : Span) (start : ℕ) → Nested (name s) start low → Nested (name n) low high → Nested (one (node_of_arg (arg.Lent (across s n) n))) start high
 lent_nested low high n s start p q = on (arg_lent (across s n) n) (opened (across s n) through s (one (tall n none)) start low high refl p (q.0, q.1, omega arith, q.3) q.2)
 
-shared_nested : (low high : ℕ) (e : Exp) (s : Span) (start : ℕ) → Nested (name s) start low → Nested (one (node_of_exp e)) low high → Nested (one (node_of_arg (arg.Shared (across s (span_of_exp e)) e))) start high
-shared_nested low high e s start p q =
-    let u = until (node_of_exp e) (span_of_exp e) low high (exp_at e) q in
+shared_nested : SpansAgree → (low high : ℕ) (e : Exp) (s : Span) (start : ℕ) → Nested (name s) start low → Nested (one (node_of_exp e)) low high → Nested (one (node_of_arg (arg.Shared (across s (span_of_exp e)) e))) start high
+shared_nested agree low high e s start p q =
+    let u = until (node_of_exp e) (span_of_exp e) low high (agree.of_exp e) q in
     on (arg_shared (across s (span_of_exp e)) e) (opened (across s (span_of_exp e)) through s (one (node_of_exp e)) start low high refl p u.0 u.1)
 
 call_nested : (low m high : ℕ) (p : Path) (more : Option (List Arg × Span)) → Nested (one (node_of_path p)) low m → (perhaps arg_lists).holds m high more → Nested (one (node_of_exp (call_of p more))) low high
@@ -103,15 +103,15 @@ unit_nested low high close o start p c = on (exp_unit (across o close)) (opened 
 
 -- ---- what stands alone
 
-if_nested : (low m k l high : ℕ) (s : Span) (c : Exp) (b : Block) (o : Option Exp) → Nested (name s) low m → Nested (one (node_of_exp c)) m k → Nested (one (node_of_block b)) k l → Perhaps exps l high o
+if_nested : SpansAgree → (low m k l high : ℕ) (s : Span) (c : Exp) (b : Block) (o : Option Exp) → Nested (name s) low m → Nested (one (node_of_exp c)) m k → Nested (one (node_of_block b)) k l → Perhaps exps l high o
     → Nested (one (node_of_exp (if_of s c b o))) low high
-if_nested low m k l high s c b None p q r h =
-    let u = until (node_of_block b) (span_of_block b) k l (block_at b) r in
+if_nested agree low m k l high s c b None p q r h =
+    let u = until (node_of_block b) (span_of_block b) k l (agree.of_block b) r in
     let e : (span_of_block b).end ≤ l = u.1 in
     on (exp_if (across s (span_of_block b)) c b None)
     (opened (across s (span_of_block b)) counted s (join (one (node_of_exp c)) (join (one (node_of_block b)) none)) low m high refl p (k, q, ((span_of_block b).end, u.0, omega arith)) (omega (arith, e, h)))
-if_nested low m k l high s c b (Some o) p q r h =
-    let u = until (node_of_exp o) (span_of_exp o) l high (exp_at o) h in
+if_nested agree low m k l high s c b (Some o) p q r h =
+    let u = until (node_of_exp o) (span_of_exp o) l high (agree.of_exp o) h in
     on (exp_if (across s (span_of_exp o)) c b (Some o))
     (opened (across s (span_of_exp o)) counted s (join (one (node_of_exp c)) (join (one (node_of_block b)) (one (node_of_exp o)))) low m high refl p (k, q, (l, r, u.0)) u.1)
 
@@ -125,9 +125,9 @@ arm_pat_at (arm_pat.Any s) = refl
 arm_pat_at (arm_pat.Ctor s n ps) = refl
 arm_pat_at (arm_pat.Member s t n ps) = refl
 
-arm_nested : (low m high : ℕ) (p : ArmPat) (e : Exp) → Nested (one (node_of_arm_pat p)) low m → Nested (one (node_of_exp e)) m high → Nested (one (node_of_arm (arm_of p e))) low high
-arm_nested low m high p e q r =
-    let u = until (node_of_exp e) (span_of_exp e) m high (exp_at e) r in
+arm_nested : SpansAgree → (low m high : ℕ) (p : ArmPat) (e : Exp) → Nested (one (node_of_arm_pat p)) low m → Nested (one (node_of_exp e)) m high → Nested (one (node_of_arm (arm_of p e))) low high
+arm_nested agree low m high p e q r =
+    let u = until (node_of_exp e) (span_of_exp e) m high (agree.of_exp e) r in
     on (arm_is (record { span = across (span_of_arm_pat p) (span_of_exp e); pattern = p; value = e }))
     (begun (across (span_of_arm_pat p) (span_of_exp e)) through (node_of_arm_pat p) (one (node_of_exp e)) low m high (start_of (node_of_arm_pat p) (span_of_arm_pat p) (arm_pat_at p)) q u.0 u.1)
 
@@ -162,35 +162,35 @@ index_nested : (low m k high : ℕ) (o : Span) (e : Exp) (close : Span) → Nest
 index_nested low m k high o e close p q c =
     on (postfix_index (across o close) e) (opened (across o close) through o (one (node_of_exp e)) low m high refl p (beyond (one (node_of_exp e)) m k close.end (closes close k high c) q) c.2)
 
-post_nested : (low m high : ℕ) (e : Exp) (ps : List Postfix) → Nested (one (node_of_exp e)) low m → Row (nodes node_of_postfix) m high ps → Nested (one (node_of_exp (post_of e ps))) low high
-post_nested low m high e [] p l = beyond (one (node_of_exp e)) low m high l p
-post_nested low m high e (q ∷ qs) p r =
+post_nested : SpansAgree → (low m high : ℕ) (e : Exp) (ps : List Postfix) → Nested (one (node_of_exp e)) low m → Row (nodes node_of_postfix) m high ps → Nested (one (node_of_exp (post_of e ps))) low high
+post_nested agree low m high e [] p l = beyond (one (node_of_exp e)) low m high l p
+post_nested agree low m high e (q ∷ qs) p r =
     on (exp_post (across (span_of_exp e) (span_of_postfix (last_of q qs))) e (q ∷ qs))
     (chained node_of_postfix (across (span_of_exp e) (span_of_postfix (last_of q qs))) through (node_of_exp e) q qs (span_of_postfix (last_of q qs)) low m high
-    (start_of (node_of_exp e) (span_of_exp e) (exp_at e)) refl (postfix_at (last_of q qs)) p r)
+    (start_of (node_of_exp e) (span_of_exp e) (agree.of_exp e)) refl (agree.of_postfix (last_of q qs)) p r)
 
 -- ---- operators
 
-prefix_nested : (low m high : ℕ) (t : Token) (e : Exp) → Nested (name t.span) low m → Nested (one (node_of_exp e)) m high → Nested (one (node_of_exp (prefix_of t e))) low high
-prefix_nested low m high t e p q =
-    let u = until (node_of_exp e) (span_of_exp e) m high (exp_at e) q in
+prefix_nested : SpansAgree → (low m high : ℕ) (t : Token) (e : Exp) → Nested (name t.span) low m → Nested (one (node_of_exp e)) m high → Nested (one (node_of_exp (prefix_of t e))) low high
+prefix_nested agree low m high t e p q =
+    let u = until (node_of_exp e) (span_of_exp e) m high (agree.of_exp e) q in
     on (exp_prefix (across t.span (span_of_exp e)) (prefix_named t.kind) e) (opened (across t.span (span_of_exp e)) counted t.span (one (node_of_exp e)) low m high refl p u.0 u.1)
 
-cast_nested : (low m high : ℕ) (e : Exp) (ns : List Span) → Nested (one (node_of_exp e)) low m → Row spans m high ns → Nested (one (node_of_exp (cast_of e ns))) low high
-cast_nested low m high e [] p l = beyond (one (node_of_exp e)) low m high l p
-cast_nested low m high e (n ∷ ns) p r =
+cast_nested : SpansAgree → (low m high : ℕ) (e : Exp) (ns : List Span) → Nested (one (node_of_exp e)) low m → Row spans m high ns → Nested (one (node_of_exp (cast_of e ns))) low high
+cast_nested agree low m high e [] p l = beyond (one (node_of_exp e)) low m high l p
+cast_nested agree low m high e (n ∷ ns) p r =
     on (exp_cast (across (span_of_exp e) (last_of n ns)) e (n ∷ ns))
-    (chained word (across (span_of_exp e) (last_of n ns)) through (node_of_exp e) n ns (last_of n ns) low m high (start_of (node_of_exp e) (span_of_exp e) (exp_at e)) refl refl p r)
+    (chained word (across (span_of_exp e) (last_of n ns)) through (node_of_exp e) n ns (last_of n ns) low m high (start_of (node_of_exp e) (span_of_exp e) (agree.of_exp e)) refl refl p r)
 
 operand_nested : (low m high : ℕ) (o : BinaryOp) (e : Exp) → low ≤ m → Nested (one (node_of_exp e)) m high → Nested (one (node_of_operand (operand_of o e))) low high
 operand_nested low m high o e l p = on (operand_is (record { op = o; right = e })) (before (one (node_of_exp e)) m high low l p)
 
-binary_nested : (low m high : ℕ) (e : Exp) (os : List Operand) → Nested (one (node_of_exp e)) low m → Row (nodes node_of_operand) m high os → Nested (one (node_of_exp (binary_of e os))) low high
-binary_nested low m high e [] p l = beyond (one (node_of_exp e)) low m high l p
-binary_nested low m high e (o ∷ os) p r =
+binary_nested : SpansAgree → (low m high : ℕ) (e : Exp) (os : List Operand) → Nested (one (node_of_exp e)) low m → Row (nodes node_of_operand) m high os → Nested (one (node_of_exp (binary_of e os))) low high
+binary_nested agree low m high e [] p l = beyond (one (node_of_exp e)) low m high l p
+binary_nested agree low m high e (o ∷ os) p r =
     on (exp_binary (across (span_of_exp e) (span_of_exp (right_of (last_of o os)))) e (o ∷ os))
     (chained node_of_operand (across (span_of_exp e) (span_of_exp (right_of (last_of o os)))) through (node_of_exp e) o os (span_of_exp (right_of (last_of o os))) low m high
-    (start_of (node_of_exp e) (span_of_exp e) (exp_at e)) refl (operand_at (last_of o os)) p r)
+    (start_of (node_of_exp e) (span_of_exp e) (agree.of_exp e)) refl (agree.of_operand (last_of o os)) p r)
 
 one_row : (low high : ℕ) (o : Option Operand) → Perhaps (nodes node_of_operand) low high o → Row (nodes node_of_operand) low high (one_or_none o)
 one_row low high None p = p
@@ -227,7 +227,7 @@ module _ (ρ : Derivings lexis rules) (knots : Knots ρ) where
   unfolding lent
   lent_gives =
       alt ρ (then_ ρ (map_to ρ (λ low high n p s start q. lent_nested low high n s start q p) (name_gives ρ knots)))
-      (map_to ρ (λ low high e p s start q. shared_nested low high e s start q p) expression_gives)
+      (map_to ρ (λ low high e p s start q. shared_nested knots.agree low high e s start q p) expression_gives)
 
   lent_arg_gives : Gives ρ lent_arg (nodes node_of_arg)
   unfolding lent_arg
@@ -283,7 +283,7 @@ module _ (ρ : Derivings lexis rules) (knots : Knots ρ) where
   pub if_form_gives : Gives ρ if_form exps
   unfolding if_form
   if_form_gives =
-      seq ρ (λ low m high s r p q. if_nested low m q.0 q.2.0 high s r.0 r.1.0 r.1.1 p q.1 q.2.1 q.2.2) (span ρ refl)
+      seq ρ (λ low m high s r p q. if_nested knots.agree low m q.0 q.2.0 high s r.0 r.1.0 r.1.1 p q.1 q.2.1 q.2.2) (span ρ refl)
       (both ρ expression_gives (both ρ block_gives else_form_gives))
 
   block_value_gives : Gives ρ block_value (by (λ (v : Exp × Bool). v.0) exps)
@@ -296,7 +296,7 @@ module _ (ρ : Derivings lexis rules) (knots : Knots ρ) where
 
   arm_form_gives : Gives ρ arm_form (by (λ (a : Arm × Bool). a.0) (nodes node_of_arm))
   unfolding arm_form
-  arm_form_gives = seq ρ (λ low m high p v q r. arm_nested low m high p v.0 q r) (arm_pattern_gives ρ knots) (then_ ρ (alt ρ block_value_gives exp_value_gives))
+  arm_form_gives = seq ρ (λ low m high p v q r. arm_nested knots.agree low m high p v.0 q r) (arm_pattern_gives ρ knots) (then_ ρ (alt ρ block_value_gives exp_value_gives))
 
   next_arms_gives : Gives ρ next_arms (pair (rows (nodes node_of_arm)) (perhaps (nodes node_of_arm)))
   unfolding next_arms
@@ -347,16 +347,16 @@ module _ (ρ : Derivings lexis rules) (knots : Knots ρ) where
 
   post_gives : Gives ρ post exps
   unfolding post
-  post_gives = seq ρ post_nested prim_gives (many ρ postfix_form_gives)
+  post_gives = seq ρ (post_nested knots.agree) prim_gives (many ρ postfix_form_gives)
 
   -- Unary
   pub unary_gives : Gives ρ unary exps
   unfolding unary
-  unary_gives = alt ρ (seq ρ {P = by span_of spans} prefix_nested (token ρ refl (λ t low high n. n)) (of_rule ρ knots RUnary)) post_gives
+  unary_gives = alt ρ (seq ρ {P = by span_of spans} (prefix_nested knots.agree) (token ρ refl (λ t low high n. n)) (of_rule ρ knots RUnary)) post_gives
 
   cast_gives : Gives ρ cast exps
   unfolding cast
-  cast_gives = seq ρ cast_nested unary_gives (many ρ (then_ ρ (name_gives ρ knots)))
+  cast_gives = seq ρ (cast_nested knots.agree) unary_gives (many ρ (then_ ρ (name_gives ρ knots)))
 
   operand_gives : (n : ℕ) (below : F Exp) → Gives ρ below exps → Gives ρ (operand n below) (nodes node_of_operand)
   unfolding operand
@@ -377,4 +377,4 @@ module _ (ρ : Derivings lexis rules) (knots : Knots ρ) where
   pub level_gives : (n : ℕ) → Gives ρ (level n) exps
   unfolding level
   level_gives zero = cast_gives
-  level_gives (suc n) = seq ρ binary_nested (level_gives n) (operands_gives n (level n) (level_gives n))
+  level_gives (suc n) = seq ρ (binary_nested knots.agree) (level_gives n) (operands_gives n (level n) (level_gives n))

@@ -12,6 +12,7 @@ use Rattle.hs_forms.specs.Nodes.{span_of}
 use Rattle.hs_syntax.specs.declared.ty.Ty.{Ty}
 use Rattle.hs_forms.specs.Grammar.{Rule, RFile, RType, RMaybe, RPat, RExp, RUnary, RBlock, RIf, ROpen, RPlace, RPlaced, rules, value, F}
 use Rattle.hs_limits.specs.Nested.{Nested}
+use Rattle.hs_limits.specs.Spans.{SpansAgree}
 use Rattle.hs_limits.specs.Nodes.{name, outline_of, node_of_ty, node_of_pat, node_of_exp, node_of_block}
 use Rattle.hs_places.specs.Spaced.{Spaced}
 use Rattle.hs_places.proofs.Spaces.{in_order, divide, behind_start, low_end, no_half}
@@ -171,10 +172,11 @@ fact ROpen = anything
 fact RPlace = anything
 fact RPlaced = anything
 
--- it is known of what these rules derive
-abbrev pub Knots : Derivings lexis rules → Type 0
-Knots ρ = (N : Rule) (w : List Token) (x : value N) (low high : ℕ) → ρ N w x → Spaced low high w → (fact N).holds low high x
+-- it is known of what these rules derive, and that nodes have the bytes of what they stand for
+pub record Knots (ρ : Derivings lexis rules) : Type 0 where
+  pub known : (N : Rule) (w : List Token) (x : value N) (low high : ℕ) → ρ N w x → Spaced low high w → (fact N).holds low high x
+  pub agree : SpansAgree
 
 -- of a rule in a form
 pub of_rule : (ρ : Derivings lexis rules) → Knots ρ → (N : Rule) → Gives ρ (rule N) (fact N)
-of_rule ρ knots N = record { known = λ w x low high d s. subst ((fact N).holds low high) d.2 (knots N w d.0 low high d.1 s) }
+of_rule ρ knots N = record { known = λ w x low high d s. subst ((fact N).holds low high) d.2 (knots.known N w d.0 low high d.1 s) }

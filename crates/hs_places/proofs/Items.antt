@@ -18,7 +18,7 @@ use Rattle.hs_forms.specs.Grammar.{rules, mutable_param, lent_type, mode_type, n
 use Rattle.hs_limits.specs.Outline.{none, join, one, all, upto, through, apart, part, parameter}
 use Rattle.hs_limits.specs.Nodes.{word, name, names, wrap, ty_outline, node_of_ty, node_of_exp, node_of_block, node_of_ctor, node_of_param, kind_outline, node_of_item, outline_of}
 use Rattle.hs_limits.specs.Nested.{Nested}
-use Rattle.hs_limits.proofs.At.{ty_at, block_at}
+use Rattle.hs_limits.specs.Spans.{SpansAgree}
 use Rattle.hs_places.proofs.Outlines.{before, beyond, begun, opened, until, upto_nested, ordered}
 use Rattle.hs_places.proofs.Facts.{Fact, nodes, outlines, spans, nothing, by, pair, perhaps, Perhaps, perhaps_nested, rows, Row, row_nested, closes}
 use Rattle.hs_places.proofs.Gives.{Gives, Knots, span, none_kept, map_to, seq, alt, then_, and_then, both, may, many, listed}
@@ -34,16 +34,16 @@ ints = by (λ (i : Int). i.span) spans
 -- ---- parameters and constructors
 
 -- a name and a type, behind a word
-mutable_nested : (low m k high : ℕ) (mode : Mode) (s n : Span) (t : Ty) → Nested (name s) low m → Nested (name n) m k → Nested (one (node_of_ty t)) k high
+mutable_nested : SpansAgree → (low m k high : ℕ) (mode : Mode) (s n : Span) (t : Ty) → Nested (name s) low m → Nested (name n) m k → Nested (one (node_of_ty t)) k high
     → Nested (one (node_of_param (record { span = across s (span_of_ty t); mode = mode; name = n; ty = t }))) low high
-mutable_nested low m k high mode s n t p q r =
-    let u = until (node_of_ty t) (span_of_ty t) k high (ty_at t) r in
+mutable_nested agree low m k high mode s n t p q r =
+    let u = until (node_of_ty t) (span_of_ty t) k high (agree.of_ty t) r in
     opened (across s (span_of_ty t)) apart s (join (name n) (ty_outline t)) low m high refl p (k, q, u.0) u.1
 
-named_nested : (low m high : ℕ) (mode : Mode) (n : Span) (t : Ty) → Nested (name n) low m → Nested (one (node_of_ty t)) m high
+named_nested : SpansAgree → (low m high : ℕ) (mode : Mode) (n : Span) (t : Ty) → Nested (name n) low m → Nested (one (node_of_ty t)) m high
     → Nested (one (node_of_param (record { span = across n (span_of_ty t); mode = mode; name = n; ty = t }))) low high
-named_nested low m high mode n t p r =
-    let u = until (node_of_ty t) (span_of_ty t) m high (ty_at t) r in
+named_nested agree low m high mode n t p r =
+    let u = until (node_of_ty t) (span_of_ty t) m high (agree.of_ty t) r in
     begun (across n (span_of_ty t)) apart (word n) (ty_outline t) low m high refl p u.0 u.1
 
 ctor_nested : (low m high : ℕ) (n : Span) (more : Option (List Ty × Span)) → Nested (name n) low m → (perhaps (pair (rows tys) spans)).holds m high more → Nested (one (node_of_ctor (ctor_of n more))) low high
@@ -83,10 +83,10 @@ enum_nested low a b c high s n cs close first p r last =
     opened (across s close) through s (kind_outline (item.Enum n cs)) low a high refl first
     (b, p, upto_nested 256 part (map node_of_ctor cs) b close.end (beyond (all (map node_of_ctor cs)) b c close.end (closes close c high last) (row_nested node_of_ctor cs b c r))) last.2
 
-fn_nested : (low a b c d high : ℕ) (s n : Span) (ps : List Param) (t : Option Ty) (body : Block) → Nested (name s) low a → Nested (name n) a b → Row (nodes node_of_param) b c ps → Perhaps tys c d t → Nested (one (node_of_block body)) d high
+fn_nested : SpansAgree → (low a b c d high : ℕ) (s n : Span) (ps : List Param) (t : Option Ty) (body : Block) → Nested (name s) low a → Nested (name n) a b → Row (nodes node_of_param) b c ps → Perhaps tys c d t → Nested (one (node_of_block body)) d high
     → declares.holds low high (item.Fn n ps t body, across s (span_of_block body))
-fn_nested low a b c d high s n ps t body first p r q last =
-    let u = until (node_of_block body) (span_of_block body) d high (block_at body) last in
+fn_nested agree low a b c d high s n ps t body first p r q last =
+    let u = until (node_of_block body) (span_of_block body) d high (agree.of_block body) last in
     opened (across s (span_of_block body)) through s (kind_outline (item.Fn n ps t body)) low a high refl first
     (b, p, (c, upto_nested 32 parameter (map node_of_param ps) b c (row_nested node_of_param ps b c r), (d, perhaps_nested node_of_ty t c d q, u.0))) u.1
 
@@ -119,7 +119,7 @@ module _ (ρ : Derivings lexis rules) (knots : Knots ρ) where
   mutable_param_gives : Gives ρ mutable_param (nodes node_of_param)
   unfolding mutable_param
   mutable_param_gives =
-      seq ρ (λ low m high s r p q. mutable_nested low m q.0 high mode.Mut s r.0 r.1 p q.1 q.2) (span ρ refl)
+      seq ρ (λ low m high s r p q. mutable_nested knots.agree low m q.0 high mode.Mut s r.0 r.1 p q.1 q.2) (span ρ refl)
       (both ρ (name_gives ρ knots) (then_ ρ (type_gives ρ knots)))
 
   lent_type_gives : Gives ρ lent_type (by (λ (r : Mode × Ty). r.1) tys)
@@ -132,7 +132,7 @@ module _ (ρ : Derivings lexis rules) (knots : Knots ρ) where
 
   named_param_gives : Gives ρ named_param (nodes node_of_param)
   unfolding named_param
-  named_param_gives = seq ρ (λ low m high n r p q. named_nested low m high r.0 n r.1 p q) (name_gives ρ knots) (then_ ρ mode_type_gives)
+  named_param_gives = seq ρ (λ low m high n r p q. named_nested knots.agree low m high r.0 n r.1 p q) (name_gives ρ knots) (then_ ρ mode_type_gives)
 
   param_gives : Gives ρ param (nodes node_of_param)
   unfolding param
@@ -185,7 +185,7 @@ module _ (ρ : Derivings lexis rules) (knots : Knots ρ) where
   fn_form_gives : Gives ρ fn_form declares
   unfolding fn_form
   fn_form_gives =
-      seq ρ (λ low m high s r p q. fn_nested low m q.0 q.2.0 q.2.2.0 high s r.0 r.1.0 r.1.1.0 r.1.1.1 p q.1 q.2.1 q.2.2.1 q.2.2.2) (span ρ refl)
+      seq ρ (λ low m high s r p q. fn_nested knots.agree low m q.0 q.2.0 q.2.2.0 high s r.0 r.1.0 r.1.1.0 r.1.1.1 p q.1 q.2.1 q.2.2.1 q.2.2.2) (span ρ refl)
       (both ρ (name_gives ρ knots) (both ρ params_gives (both ρ result_type_gives (block_gives ρ knots))))
 
   data_form_gives : Gives ρ data_form declares

@@ -14,6 +14,7 @@ use Rattle.hs_syntax.specs.declared.exp.Path.{Path}
 use Rattle.hs_syntax.specs.declared.exp.BinaryOp.{BinaryOp}
 use Rattle.hs_syntax.specs.declared.exp.PrefixOp.{PrefixOp}
 use Rattle.hs_syntax.specs.declared.exp.Target.{Target}
+use Rattle.hs_syntax.specs.declared.exp.Variable.{Variable}
 use Rattle.hs_syntax.specs.declared.exp.Exp.{Exp, roll-Exp}
 use Rattle.hs_syntax.specs.declared.exp.Exp.TheVariants as exp
 use Rattle.hs_syntax.specs.declared.exp.Operand.{Operand, roll-Operand}
@@ -28,7 +29,7 @@ use Rattle.hs_syntax.specs.declared.exp.Arm.{Arm, roll-Arm}
 use Rattle.hs_syntax.specs.declared.exp.Stmt.{Stmt, roll-Stmt}
 use Rattle.hs_syntax.specs.declared.exp.Stmt.TheVariants as stmt
 use Rattle.hs_syntax.specs.declared.exp.Block.{Block, roll-Block}
-use Rattle.hs_syntax.specs.Spans.{span_of_path}
+use Rattle.hs_syntax.specs.Spans.{span_of_path, span_of_variable}
 use Rattle.hs_limits.specs.Outline.{Node, none, join, one, maybe, all, upto, chain, part, statement}
 use Rattle.hs_limits.specs.Nested.{Nested}
 use Rattle.hs_limits.specs.Nodes.{word, name, tall, wrap, flat, node_of_ty, ty_layer, optional_ty, node_of_pat, pat_layer, node_of_arm_pat, node_of_path, node_of_exp, node_of_arg, node_of_postfix, node_of_stmt, node_of_arm, node_of_block, node_of_operand, exp_layer, arg_layer, postfix_layer, stmt_layer, arm_layer, block_layer, operand_layer}
@@ -175,7 +176,7 @@ pub stmt_assign : (s : Span) (t : Target) (ps : List Postfix) (o : Option Binary
 unfolding roll-Stmt denote.Hole.Carrier.roll
 stmt_assign s t ps o e = fold-roll-Stmt Node Node Node Node Node Node Node arg_layer exp_layer postfix_layer stmt_layer arm_layer block_layer operand_layer (layers.Assign s t ps o e)
 
-pub stmt_for : (s : Span) (x : Option Span) (e : Exp) (f : Exp) (b : Block) → node_of_stmt (stmt.For s x e f b) ≡ tall s (join (maybe (option_map word x)) (join (one (node_of_exp e)) (join (one (node_of_exp f)) (one (node_of_block b)))))
+pub stmt_for : (s : Span) (x : Variable) (e : Exp) (f : Exp) (b : Block) → node_of_stmt (stmt.For s x e f b) ≡ tall s (join (name (span_of_variable x)) (join (one (node_of_exp e)) (join (one (node_of_exp f)) (one (node_of_block b)))))
 unfolding roll-Stmt denote.Hole.Carrier.roll
 stmt_for s x e f b = fold-roll-Stmt Node Node Node Node Node Node Node arg_layer exp_layer postfix_layer stmt_layer arm_layer block_layer operand_layer (layers.For s x e f b)
 

@@ -22,7 +22,7 @@ use Rattle.hs_forms.specs.Blocks.{is_step, name_in_path, name_layer, name_in, st
 use Rattle.hs_limits.specs.Outline.{Outline, Node, node, join, one, all, through}
 use Rattle.hs_limits.specs.Nodes.{name, wrap, node_of_exp, node_of_arg, node_of_postfix, node_of_stmt, node_of_arm, node_of_block, node_of_operand, arg_layer, exp_layer, postfix_layer, stmt_layer, arm_layer, block_layer, operand_layer}
 use Rattle.hs_limits.specs.Nested.{Nested}
-use Rattle.hs_limits.proofs.At.{exp_at}
+use Rattle.hs_limits.specs.Spans.{SpansAgree}
 use Rattle.hs_places.proofs.Outlines.{wide, chained_nested}
 use Rattle.hs_places.proofs.Layers.{off}
 
@@ -90,10 +90,10 @@ steps_out (layer.Post s x qs) n ps low high e (a, b, c, d) =
     subst (λ (ps : List Postfix). Nested (place s n ps) low high) i.1 (a, b, c, (m.0, name_nested x n s.start m.0 i.0 m.1, m.2))
 steps_out _ n ps low high e q = absurd (none_some (n, ps) e)
 
-steps_nested : (x : Exp) (n : Span) (ps : List Postfix) (low high : ℕ) → steps_in x ≡ Some (n, ps) → Nested (one (node_of_exp x)) low high → Nested (place (span_of_exp x) n ps) low high
+steps_nested : SpansAgree → (x : Exp) (n : Span) (ps : List Postfix) (low high : ℕ) → steps_in x ≡ Some (n, ps) → Nested (one (node_of_exp x)) low high → Nested (place (span_of_exp x) n ps) low high
 unfolding steps_in
-steps_nested x n ps low high e p =
-    subst (λ (s : Span). Nested (place s n ps) low high) (ap (λ (z : Node). z.at) (sym (exp_out x)) ∙ exp_at x) (steps_out (out-Exp x) n ps low high e (off (exp_out x) p))
+steps_nested agree x n ps low high e p =
+    subst (λ (s : Span). Nested (place s n ps) low high) (ap (λ (z : Node). z.at) (sym (exp_out x)) ∙ agree.of_exp x) (steps_out (out-Exp x) n ps low high e (off (exp_out x) p))
 
 -- ---- a place
 
@@ -106,21 +106,21 @@ target_nested whole star None t ps low high e h = absurd (none_some (t, ps) e)
 target_nested whole star (Some (n, qs)) t ps low high e h =
     subst (λ (x : Target × List Postfix). Holds x.0 x.1 low high) (some_one (record { span = whole; star = star; name = n }, qs) (t, ps) e) (h n qs refl)
 
-starred_nested : (s : Span) (o : PrefixOp) (x : Exp) (t : Target) (ps : List Postfix) (low high : ℕ) → starred s o x ≡ Some (t, ps) → Nested (one (exp_node (layer.Prefix s o x))) low high → Holds t ps low high
-starred_nested s prefix.Read x t ps low high e (a, b, c, d) =
+starred_nested : SpansAgree → (s : Span) (o : PrefixOp) (x : Exp) (t : Target) (ps : List Postfix) (low high : ℕ) → starred s o x ≡ Some (t, ps) → Nested (one (exp_node (layer.Prefix s o x))) low high → Holds t ps low high
+starred_nested agree s prefix.Read x t ps low high e (a, b, c, d) =
     target_nested s true (steps_in x) t ps low high e (λ n qs i.
-    let p = steps_nested x n qs s.start s.end i d in
+    let p = steps_nested agree x n qs s.start s.end i d in
     (a, b, c, wide (join (name n) (all (map node_of_postfix qs))) (span_of_exp x).start (span_of_exp x).end s.start s.end p.0 p.2 p.3))
-starred_nested s prefix.Negate x t ps low high e q = absurd (none_some (t, ps) e)
-starred_nested s prefix.Not x t ps low high e q = absurd (none_some (t, ps) e)
+starred_nested agree s prefix.Negate x t ps low high e q = absurd (none_some (t, ps) e)
+starred_nested agree s prefix.Not x t ps low high e q = absurd (none_some (t, ps) e)
 
-place_out : (whole : Exp) (y : E) (t : Target) (ps : List Postfix) (low high : ℕ) → place_layer whole y ≡ Some (t, ps) → Nested (one (exp_node y)) low high → Nested (one (node_of_exp whole)) low high → Holds t ps low high
-place_out whole (layer.Prefix s o x) t ps low high e p q = starred_nested s o x t ps low high e p
-place_out whole _ t ps low high e p q = target_nested (span_of_exp whole) false (steps_in whole) t ps low high e (λ n qs i. steps_nested whole n qs low high i q)
+place_out : SpansAgree → (whole : Exp) (y : E) (t : Target) (ps : List Postfix) (low high : ℕ) → place_layer whole y ≡ Some (t, ps) → Nested (one (exp_node y)) low high → Nested (one (node_of_exp whole)) low high → Holds t ps low high
+place_out agree whole (layer.Prefix s o x) t ps low high e p q = starred_nested agree s o x t ps low high e p
+place_out agree whole _ t ps low high e p q = target_nested (span_of_exp whole) false (steps_in whole) t ps low high e (λ n qs i. steps_nested agree whole n qs low high i q)
 
-pub place_nested : (x : Exp) (t : Target) (ps : List Postfix) (low high : ℕ) → place_in x ≡ Some (t, ps) → Nested (one (node_of_exp x)) low high → Nested (one (wrap t.span (join (name t.name) (all (map node_of_postfix ps))))) low high
+pub place_nested : SpansAgree → (x : Exp) (t : Target) (ps : List Postfix) (low high : ℕ) → place_in x ≡ Some (t, ps) → Nested (one (node_of_exp x)) low high → Nested (one (wrap t.span (join (name t.name) (all (map node_of_postfix ps))))) low high
 unfolding place_in
-place_nested x t ps low high e p = place_out x (out-Exp x) t ps low high e (off (exp_out x) p) p
+place_nested agree x t ps low high e p = place_out agree x (out-Exp x) t ps low high e (off (exp_out x) p) p
 
 -- ---- what stands alone as a statement
 

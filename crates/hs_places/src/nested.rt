@@ -12,6 +12,8 @@ ghost use Rattle.hs_limits.specs.Nested.{Nested};
 ghost use Rattle.hs_limits.specs.Nodes.{outline_of};
 ghost use Rattle.hs_places.specs.Spaced.{Spaced};
 
+use hs_limits::spans_agree;
+
 /// A file that the grammar derives has its nodes where they stand in the text. Nothing runs: the clauses are what is proved.
 ///
 /// - `spaced`: where the tokens of a text stand one behind the other, so do those that the grammar sees, of which the halves of a
@@ -21,4 +23,6 @@ ghost use Rattle.hs_places.specs.Spaced.{Spaced};
 pub fn nodes_are_nested()
     ensures spaced { (text : List ℕ) (tokens : List Spelled) (low high : ℕ) → Placed low high tokens → Spaced low high (tokens_of text tokens) }
     ensures nested { (w : List Token) (x : File) (low high : ℕ) → DerivesAs grammar RFile w x → Spaced low high w → Nested (outline_of x) low high }
-{}
+{
+    spans_agree();
+}

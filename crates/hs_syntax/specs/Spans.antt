@@ -10,6 +10,8 @@ use Rattle.hs_syntax.specs.declared.pat.ArmPat.{ArmPat}
 use Rattle.hs_syntax.specs.declared.pat.ArmPat.TheVariants as arm_pat
 use Rattle.hs_syntax.specs.declared.exp.Path.{Path}
 use Rattle.hs_syntax.specs.declared.exp.Path.TheVariants as path
+use Rattle.hs_syntax.specs.declared.exp.Variable.{Variable}
+use Rattle.hs_syntax.specs.declared.exp.Variable.TheVariants as variable
 use Rattle.hs_syntax.specs.declared.exp.Exp.{Exp, out-Exp}
 use Rattle.hs_syntax.specs.declared.exp.Arg.TheOpen.{Exp-F, Postfix-F, Stmt-F}
 use Rattle.hs_syntax.specs.declared.exp.Arg.TheOpen as exp
@@ -48,6 +50,11 @@ unfoldable pub span_of_path : Path → Span
 span_of_path (path.Name s) = s
 span_of_path (path.Member s t n) = s
 span_of_path (path.Of s n t m) = s
+
+-- of the variable of a loop
+unfoldable pub span_of_variable : Variable → Span
+span_of_variable (variable.Name s) = s
+span_of_variable (variable.Any s) = s
 
 -- of a block
 unfoldable pub span_of_block : Block → Span

@@ -4,7 +4,7 @@
 //! names behind `as`. So a tree is no deeper than brackets, prefixes and blocks nest in the text.
 
 ghost use Rattle.std.specs.Prelude.{◌≡◌};
-ghost use Rattle.hs_syntax.specs.Spans.{span_of_path, span_of_exp, span_of_postfix, span_of_stmt};
+ghost use Rattle.hs_syntax.specs.Spans.{span_of_path, span_of_exp, span_of_postfix, span_of_stmt, span_of_variable};
 
 use crate::pat::{ArmPat, Pat};
 use crate::span::{Int, Span};
@@ -185,8 +185,8 @@ pub enum Stmt {
     /// `*x[i].0 += e;`: what is assigned, the steps behind its name, each an index or a part, the operator of a compound
     /// assignment, and the right side.
     Assign(Span, Target, Items<Postfix>, Option<BinaryOp>, Exp),
-    /// `for i in e..f { .. }`: the variable, none where it is `_`, the two bounds, and the body.
-    For(Span, Option<Span>, Exp, Exp, Block),
+    /// `for i in e..f { .. }`: the variable, the two bounds, and the body.
+    For(Span, Variable, Exp, Exp, Block),
     /// `return e;`.
     Return(Span, Option<Exp>),
     /// An `if`, a `match` or a block with no `;` behind it, before a further statement or expression.
@@ -201,6 +201,27 @@ pub struct Target {
     pub span: Span,
     pub star: bool,
     pub name: Span,
+}
+
+/// The variable of a loop.
+#[derive(Clone, Copy, Debug, PartialEq, Eq)]
+pub enum Variable {
+    /// `i`.
+    Name(Span),
+    /// `_`.
+    Any(Span),
+}
+
+impl Variable {
+    /// The bytes that the variable stands for.
+    #[tactic(auto, unfolding(crate::specs::Spans::span_of_variable))]
+    pub fn span(&self) -> Span
+        ensures { result ≡ span_of_variable self.now }
+    {
+        match self {
+            Variable::Name(span) | Variable::Any(span) => *span,
+        }
+    }
 }
 
 impl Exp {

@@ -10,7 +10,9 @@ mod span;
 mod tests;
 mod ty;
 
-pub use exp::{Arg, Arm, BinaryOp, Block, Exp, Operand, Path, Postfix, PrefixOp, Stmt, Target};
+pub use exp::{
+    Arg, Arm, BinaryOp, Block, Exp, Operand, Path, Postfix, PrefixOp, Stmt, Target, Variable,
+};
 pub use item::{Ctor, File, Item, ItemKind, Mode, Param};
 pub use measure::{height, height_of_block, height_of_stmt};
 pub use pat::{ArmPat, Pat};

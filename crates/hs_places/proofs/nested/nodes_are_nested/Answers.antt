@@ -6,4 +6,4 @@ pub returns-clause-spaced : goal.returns-clause-spaced
 returns-clause-spaced c = tokens_spaced
 
 pub returns-clause-nested : goal.returns-clause-nested
-returns-clause-nested c = file_nested
+returns-clause-nested c = file_nested c.spans_agree.ensures
