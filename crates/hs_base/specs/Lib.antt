@@ -1,6 +1,8 @@
 pub mod Causes
+pub mod Faults
 pub mod Heaps
-pub mod Puts
+pub mod Names
+pub mod Positions
 pub mod Reads
 pub mod Rules
 pub mod ShelfState

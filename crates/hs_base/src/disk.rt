@@ -1,66 +1,125 @@
 //! Files of the system.
 
-ghost use Rattle.std.specs.Prelude.{◌≡◌, ◌⊎◌, ℕ, ◌+◌, ◌-◌, ◌<◌, ◌≤◌, List, [], length, IfOk, OnOk, OnErr, IsErrOf};
+ghost use Rattle.std.specs.Prelude.{◌≡◌, ◌⊎◌, ◌↔◌, ◌≢◌, ℕ, ◌+◌, ◌-◌, ◌<◌, ◌≤◌, List, [], length, IfOk, IfErr, OnOk, OnErr, IsErrOf, IsErrAnd};
 ghost use Rattle.std.specs.Io.KnownBytes.{Consumes, IsAtEnd};
+ghost use Rattle.std.specs.IoError.{error_kind};
+ghost use Rattle.std.specs.declared.io.Error.{Error};
 ghost use Rattle.hs_base.specs.Causes.{Rose, next_of};
-ghost use Rattle.hs_base.specs.Reads.{HasMore};
+ghost use Rattle.hs_base.specs.Faults.{told_of};
+ghost use Rattle.hs_base.specs.Reads.{IsTold, IsAll, HasMore, ReadPast};
 ghost use Rattle.hs_base.specs.Told.{Holds, Lacks, Exceeds, untold};
 
 use crate::outside::{FetchFault, Files};
-use std::alloc::Global;
+use crate::repeats::Repeats;
+use std::alloc::{AllocError, Global};
 use std::fs::File;
 use std::io;
-use std::io::Read;
-
-// How often a read that was interrupted is made again in one fetch.
-const REPEATS: u32 = 1024;
+use std::io::{ErrorKind, Read};
 
 // How many bytes are asked for at once.
 const CHUNK: usize = 4096;
 
+// Why the bytes of a file were not read.
+#[derive(Debug, Drop)]
+enum ReadFault {
+    // The system found no such file.
+    NotThere,
+    // There are more bytes than the limit allows.
+    TooLarge,
+    // The system failed, with this error.
+    Failed(io::Error),
+    // There was no memory for the bytes.
+    NoMemory,
+}
+
+impl From<io::Error> for ReadFault {
+    ghost use Rattle.hs_base.specs.declared.disk.ReadFault.TheVariants.{Failed};
+
+    ghost from_gives = { λ error fault. fault ≡ Failed error };
+
+    fn from(error: io::Error) -> ReadFault {
+        ReadFault::Failed(error)
+    }
+}
+
+impl From<AllocError> for ReadFault {
+    ghost use Rattle.hs_base.specs.declared.disk.ReadFault.TheVariants.{NoMemory};
+
+    ghost from_gives = { λ _ fault. fault ≡ NoMemory };
+
+    fn from(_error: AllocError) -> ReadFault {
+        ReadFault::NoMemory
+    }
+}
+
 // Reads to the end, or one byte past the limit.
-fn read_within<R: Read>(alloc: Global, reader: &mut R, limit: u32) -> Result<Vec<u8>, FetchFault>
+fn read_within<R: Read>(
+    alloc: Global,
+    reader: &mut R,
+    limit: u32,
+    repeats: &mut Repeats,
+) -> Result<Vec<u8>, ReadFault>
     ensures bytes { IfOk result (λ bytes. Consumes (R.remaining reader.old) (R.remaining reader.new) bytes.items) }
     ensures end { IfOk result (λ bytes. length bytes.items ≤ limit → IsAtEnd (R.remaining reader.new)) }
-    ensures err { OnErr result (IsErrOf result FetchFault.Failed ⊎ IsErrOf result FetchFault.NoMemory) }
+    ensures most { IfOk result (λ bytes. length bytes.items ≤ limit + 1) }
+    ensures not_there { ¬ IsErrOf result ReadFault.NotThere }
+    ensures too_large { ¬ IsErrOf result ReadFault.TooLarge }
+    ensures failed { IfErr result (λ fault. (error : Error) → fault ≡ ReadFault.Failed error → IsTold error repeats.new) }
 {
     let most = limit as usize + 1;
     let mut bytes = Vec::new(alloc);
-    let mut repeats = REPEATS;
     let mut buf = [0u8; CHUNK];
     while bytes.len() < most {
         let want = (most - bytes.len()).min(CHUNK);
         match reader.read(&mut buf[..want]) {
             Ok(0) => return Ok(bytes),
-            Ok(count) => {
-                if bytes.extend_from_slice(&buf[..count]).is_err() {
-                    return Err(FetchFault::NoMemory);
-                }
-            }
-            Err(error) => {
-                if error.kind() != io::ErrorKind::Interrupted || repeats == 0 {
-                    return Err(FetchFault::Failed);
-                }
-                repeats -= 1;
-            }
+            Ok(count) => bytes.extend_from_slice(&buf[..count])?,
+            Err(error) => repeats.after(error)?,
         }
     }
     Ok(bytes)
 }
 
 // All the bytes that are left, if they are within the limit.
-fn read_all<R: Read>(alloc: Global, reader: &mut R, limit: u32) -> Result<Vec<u8>, FetchFault>
+fn read_all<R: Read>(
+    alloc: Global,
+    reader: &mut R,
+    limit: u32,
+    repeats: &mut Repeats,
+) -> Result<Vec<u8>, ReadFault>
     ensures bytes { IfOk result (λ bytes. Consumes (R.remaining reader.old) (R.remaining reader.new) bytes.items) }
     ensures end { OnOk result (IsAtEnd (R.remaining reader.new)) }
     ensures within { IfOk result (λ bytes. length bytes.items ≤ limit) }
-    ensures not_there { ¬ IsErrOf result FetchFault.NotThere }
-    ensures too_large { IsErrOf result FetchFault.TooLarge → HasMore (R.remaining reader.old) limit }
+    ensures not_there { ¬ IsErrOf result ReadFault.NotThere }
+    ensures too_large { IsErrOf result ReadFault.TooLarge → ReadPast (R.remaining reader.old) (R.remaining reader.new) limit }
+    ensures failed { IfErr result (λ fault. (error : Error) → fault ≡ ReadFault.Failed error → IsTold error repeats.new) }
 {
-    let bytes = read_within(alloc, reader, limit)?;
+    let bytes = read_within(alloc, reader, limit, repeats)?;
     if bytes.len() > limit as usize {
-        return Err(FetchFault::TooLarge);
+        return Err(ReadFault::TooLarge);
     }
     Ok(bytes)
+}
+
+// All the bytes of a file that the system was asked to open, if they are within the limit.
+fn read_opened<R: Read + Drop>(
+    alloc: Global,
+    opened: io::Result<R>,
+    limit: u32,
+    repeats: &mut Repeats,
+) -> Result<Vec<u8>, ReadFault>
+    ensures bytes { IfOk opened (λ file. IfOk result (λ bytes. IsAll (R.remaining file) bytes.items)) }
+    ensures within { IfOk result (λ bytes. length bytes.items ≤ limit) }
+    ensures too_large { IsErrOf result ReadFault.TooLarge → IfOk opened (λ file. HasMore (R.remaining file) limit) }
+    ensures failed { IfErr result (λ fault. (error : Error) → fault ≡ ReadFault.Failed error → IfOk opened (λ _. IsTold error repeats.new)) }
+    ensures not_there { IsErrOf result ReadFault.NotThere ↔ IsErrAnd opened (λ error. error_kind error ≡ ErrorKind.NotFound) }
+    ensures not_opened { IfErr opened (λ error. error_kind error ≢ ErrorKind.NotFound → IsErrOf result (ReadFault.Failed error)) }
+{
+    match opened {
+        Ok(mut file) => read_all(alloc, &mut file, limit, repeats),
+        Err(error) if error.kind() == ErrorKind::NotFound => Err(ReadFault::NotThere),
+        Err(error) => Err(ReadFault::Failed(error)),
+    }
 }
 
 /// The system's files, whose failures are counted.
@@ -86,14 +145,22 @@ impl<R: std::rt::Files> Disk<R> {
         }
     }
 
-    // Counts a failure.
-    fn fault(&mut self) -> FetchFault
-        ensures answer { result ≡ FetchFault.Failed }
-        ensures counted { self.new.faults ≡ next_of self.old.faults }
+    // What a fetch tells. A failure is counted.
+    fn tell(&mut self, fault: ReadFault) -> FetchFault
+        ensures answer { result ≡ told_of fault }
+        ensures one_fault { result ≡ FetchFault.Failed → self.new.faults ≡ next_of self.old.faults }
+        ensures no_fault { (result ≡ FetchFault.Failed) ⊎ (self.new.faults ≡ self.old.faults) }
         ensures later { self.old.faults ≤ self.new.faults }
     {
-        self.faults = self.faults.saturating_add(1);
-        FetchFault::Failed
+        match fault {
+            ReadFault::NotThere => FetchFault::NotThere,
+            ReadFault::TooLarge => FetchFault::TooLarge,
+            ReadFault::Failed(_) => {
+                self.faults = self.faults.saturating_add(1);
+                FetchFault::Failed
+            }
+            ReadFault::NoMemory => FetchFault::NoMemory,
+        }
     }
 }
 
@@ -117,18 +184,11 @@ impl<R: std::rt::Files> Files for Disk<R> {
         ensures one_fault { IsErrOf result FetchFault.Failed → self.new.faults ≡ next_of self.old.faults }
         ensures no_fault { IsErrOf result FetchFault.Failed ⊎ (self.new.faults ≡ self.old.faults) }
     {
-        let mut file = match File::open(&self.rt, name) {
-            Ok(file) => file,
-            Err(error) => {
-                if error.kind() == io::ErrorKind::NotFound {
-                    return Err(FetchFault::NotThere);
-                }
-                return Err(self.fault());
-            }
-        };
-        match read_all(self.alloc, &mut file, limit) {
-            Err(FetchFault::Failed) => Err(self.fault()),
-            answer => answer,
+        let opened = File::open(&self.rt, name);
+        let mut repeats = Repeats::new();
+        match read_opened(self.alloc, opened, limit, &mut repeats) {
+            Ok(bytes) => Ok(bytes),
+            Err(fault) => Err(self.tell(fault)),
         }
     }
 }
@@ -148,7 +208,7 @@ mod tests {
         fn read(&mut self, _buf: &mut [u8]) -> io::Result<usize> {
             if self.left > 0 {
                 self.left -= 1;
-                return Err(io::Error::from(io::ErrorKind::Interrupted));
+                return Err(io::Error::from(ErrorKind::Interrupted));
             }
             Ok(0)
         }
@@ -157,8 +217,24 @@ mod tests {
     #[test]
     fn repeats_so_often_and_no_more(rt: HostRuntime) -> Result<(), Fail> {
         let alloc = rt.alloc();
-        assert!(rt; read_all(alloc, &mut Interrupted { left: 1024 }, 9).is_ok());
-        assert!(rt; read_all(alloc, &mut Interrupted { left: 1025 }, 9).is_err());
+        assert!(rt;
+            read_all(
+                alloc,
+                &mut Interrupted { left: 1024 },
+                9,
+                &mut Repeats::new()
+            )
+            .is_ok()
+        );
+        assert!(rt;
+            read_all(
+                alloc,
+                &mut Interrupted { left: 1025 },
+                9,
+                &mut Repeats::new()
+            )
+            .is_err()
+        );
         Ok(())
     }
 
@@ -166,15 +242,36 @@ mod tests {
     fn reads_up_to_the_limit(rt: HostRuntime) -> Result<(), Fail> {
         let alloc = rt.alloc();
         let mut text = b"abcdef".as_slice();
-        let Ok(bytes) = read_all(alloc, &mut text, 6) else {
+        let Ok(bytes) = read_all(alloc, &mut text, 6, &mut Repeats::new()) else {
             return Err(Fail::from("no bytes"));
         };
         assert_eq!(rt; bytes.as_slice(), b"abcdef".as_slice());
         let mut text = b"abcdef".as_slice();
-        match read_all(alloc, &mut text, 3) {
-            Err(FetchFault::TooLarge) => assert_eq!(rt; text, b"ef".as_slice()),
+        match read_all(alloc, &mut text, 3, &mut Repeats::new()) {
+            Err(ReadFault::TooLarge) => assert_eq!(rt; text, b"ef".as_slice()),
             _ => return Err(Fail::from("another answer")),
         }
+        Ok(())
+    }
+
+    #[test]
+    fn a_file_of_the_system_is_read_to_its_end(rt: HostRuntime) -> Result<(), Fail> {
+        let alloc = rt.alloc();
+        let mut disk = Disk::new(rt, alloc);
+        let Ok(bytes) = disk.fetch("/proc/sys/kernel/ostype", 6) else {
+            return Err(Fail::from("no bytes"));
+        };
+        assert_eq!(rt; bytes.as_slice(), b"Linux\n".as_slice());
+        match disk.fetch("/proc/sys/kernel/ostype", 5) {
+            Err(FetchFault::TooLarge) => {}
+            _ => return Err(Fail::from("another answer of a longer file")),
+        }
+        assert_eq!(rt; disk.faults, 0);
+        match disk.fetch("/", 9) {
+            Err(FetchFault::Failed) => {}
+            _ => return Err(Fail::from("another answer of a folder")),
+        }
+        assert_eq!(rt; disk.faults, 1);
         Ok(())
     }
 

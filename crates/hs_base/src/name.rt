@@ -1,6 +1,6 @@
 //! Names of a source.
 
-ghost use Rattle.std.specs.Prelude.{◌≡◌, ◌↔◌, IfOk, IsTrue};
+ghost use Rattle.std.specs.Prelude.{◌≡◌, IfOk};
 
 use crate::memory::NoMemory;
 use std::alloc::Global;
@@ -54,13 +54,6 @@ impl Name {
         Ok(Name {
             text: self.text.to_vec(alloc)?,
         })
-    }
-
-    /// Whether two names have the same bytes.
-    pub fn same(&self, other: &Name) -> bool
-        ensures { IsTrue result ↔ (self.now ≡ other.now) }
-    {
-        self.text.as_slice() == other.text.as_slice()
     }
 }
 
@@ -119,9 +112,9 @@ mod tests {
             return Err(Fail::from("no memory"));
         };
         assert_eq!(rt; copy.bytes(), b"add".as_slice());
-        assert!(rt; copy.same(&name) && copy == name);
+        assert!(rt; copy == name);
         assert_eq!(rt; hash_of(&copy), hash_of(&name));
-        assert!(rt; !other.same(&name) && other != name);
+        assert!(rt; other != name);
         Ok(())
     }
 }

@@ -7,6 +7,8 @@ ghost use Rattle.std.specs.Io.KnownBytes.{WriteAppends};
 ghost use Rattle.hs_base.specs.Causes.{Rose, HasCause};
 ghost use Rattle.hs_base.specs.Told.{Entry, Holds, Lacks, Exceeds};
 
+use std::alloc::AllocError;
+
 /// Why a fetch gave no bytes.
 #[derive(Clone, Copy, Debug, PartialEq, Eq)]
 pub enum FetchFault {
@@ -18,6 +20,16 @@ pub enum FetchFault {
     Failed,
     /// There was no memory for the bytes.
     NoMemory,
+}
+
+impl From<AllocError> for FetchFault {
+    ghost use Rattle.hs_base.specs.declared.outside.FetchFault.TheVariants.{NoMemory};
+
+    ghost from_gives = { λ _ fault. fault ≡ NoMemory };
+
+    fn from(_error: AllocError) -> FetchFault {
+        FetchFault::NoMemory
+    }
 }
 
 /// Files by their names.

@@ -46,10 +46,7 @@ fn copy_of(alloc: Global, held: &[Held], name: &str, limit: u32) -> Result<Vec<u
     if bytes.len() > limit as usize {
         return Err(FetchFault::TooLarge);
     }
-    match bytes.to_vec(alloc) {
-        Ok(copy) => Ok(copy),
-        Err(NoMemory) => Err(FetchFault::NoMemory),
-    }
+    Ok(bytes.to_vec(alloc)?)
 }
 
 // Puts bytes under a name, in the place of those that are there.

@@ -4,30 +4,25 @@ ghost use Rattle.std.specs.Prelude.{◌≡◌, ◌≢◌, ℕ, ◌≤◌, List, 
 ghost use Rattle.std.specs.Io.{WritesAtMost};
 ghost use Rattle.std.specs.Io.KnownBytes.{WriteAppends};
 ghost use Rattle.hs_base.specs.Causes.{HasCause, next_of};
+ghost use Rattle.hs_base.specs.Reads.{IsTold};
 
 use crate::outside::{Failed, Sink};
+use crate::repeats::Repeats;
 use std::io;
 use std::io::Write;
 
-// How often a write that was interrupted is made again in one put.
-const REPEATS: u32 = 1024;
-
 // One write, made again where it was interrupted.
-fn write_again<W: Write>(writer: &mut W, piece: &[u8]) -> io::Result<usize>
+fn write_again<W: Write>(writer: &mut W, piece: &[u8], repeats: &mut Repeats) -> io::Result<usize>
     ensures bound { WritesAtMost result piece.now }
     ensures bytes { WriteAppends (W.contents writer.old) (W.contents writer.new) result piece.now }
+    ensures failed { IfErr result (λ error. IsTold error repeats.new) }
 {
-    for _ in 0..REPEATS {
+    loop {
         match writer.write(piece) {
             Ok(count) => return Ok(count),
-            Err(error) => {
-                if error.kind() != io::ErrorKind::Interrupted {
-                    return Err(error);
-                }
-            }
+            Err(error) => repeats.after(error)?,
         }
     }
-    writer.write(piece)
 }
 
 /// Standard output or standard error, or another writer, whose failures are counted.
@@ -73,7 +68,7 @@ impl<W: Write> Sink for StdSink<W> {
         ensures one_fault { OnErr result (self.new.faults ≡ next_of self.old.faults) }
         ensures no_fault { OnOk result (self.new.faults ≡ self.old.faults) }
     {
-        match write_again(&mut self.writer, piece) {
+        match write_again(&mut self.writer, piece, &mut Repeats::new()) {
             Ok(count) if count > 0 || piece.is_empty() => Ok(count),
             _ => {
                 self.faults = self.faults.saturating_add(1);

@@ -10,7 +10,7 @@ returns-then-len-limit-clause-too_large c =
       search rules,
     )
 
-pub returns-in-Ok-clause-bytes : goal.returns-in-Ok-clause-bytes
-returns-in-Ok-clause-bytes c =
+pub returns-clause-bytes : goal.returns-clause-bytes
+returns-clause-bytes c =
     stands_under c.args.name.now c.args.held.now c.in-Some.at c.index-held-at.result c.in-Some.ensures.found c.index-held-at.is
-    ∙ ap Some (let p : c.index-held-at.result.bytes.items ≡ c.in-Ok.copy.items = search rules in p)
+    ∙ ap Some (let p : c.index-held-at.result.bytes.items ≡ c.in_ok-to_vec.field-0.items = search rules in p)
