@@ -2,4 +2,5 @@ pub mod Cuts
 pub mod Closings
 pub mod Values
 pub mod Longest
+pub mod Names
 pub mod Places

@@ -15,8 +15,10 @@ use Rattle.hs_lexer.specs.declared.token.TokenKind.{TokenKind}
 use Rattle.hs_lexer.specs.declared.token.TokenKind.TheVariants.{Text, Mark}
 use Rattle.hs_lexer.specs.declared.token.Token.{Token}
 use Rattle.hs_lexer.specs.declared.piece.Piece.{Piece}
-use Rattle.hs_lexer.specs.Bytes.{is_blank, is_in_line, is_word_byte, is_text_byte, is_letter, is_digit}
-use Rattle.hs_lexer.specs.Words.{is_one_of, is_mark, punctuation, operators, assignments, pairs}
+use Rattle.hs_base.specs.Names.{is_word_byte, begins_name, is_letter, is_upper, is_digit}
+use Rattle.hs_base.specs.Positions.{is_in_line}
+use Rattle.hs_lexer.specs.Bytes.{is_blank, is_text_byte}
+use Rattle.hs_lexer.specs.Marks.{is_one_of, is_mark, punctuation, operators, assignments, pairs}
 use Rattle.hs_lexer.specs.Pieces.{gap, spelling, spelled, closed, closed_after, kind_of_word, longest_front, begins_quote, piece_at, word_at, mark_of, mark_at, string_before, comment_before, spelling_at}
 use Rattle.hs_lexer.specs.Spellings.{is_word, is_string, is_spelling, IsLongest}
 use Rattle.hs_lexer.specs.Lexes.{Cut, token_before, tokens_of, Lexes}
@@ -56,19 +58,19 @@ mark_shape [] = false
 mark_shape (b ∷ bs) = leb (length bs) 2 && ((not (is_word_byte b) || eqb (length bs) 0) && not (eqb b 34))
 
 punctuation_shape : list_all mark_shape punctuation ≡ true
-unfolding is_word_byte is_letter is_digit
+unfolding is_word_byte begins_name is_letter is_upper is_digit
 punctuation_shape = refl
 
 operators_shape : list_all mark_shape operators ≡ true
-unfolding is_word_byte is_letter is_digit
+unfolding is_word_byte begins_name is_letter is_upper is_digit
 operators_shape = refl
 
 assignments_shape : list_all mark_shape assignments ≡ true
-unfolding is_word_byte is_letter is_digit
+unfolding is_word_byte begins_name is_letter is_upper is_digit
 assignments_shape = refl
 
 pairs_shape : list_all mark_shape pairs ≡ true
-unfolding is_word_byte is_letter is_digit
+unfolding is_word_byte begins_name is_letter is_upper is_digit
 pairs_shape = refl
 
 mark_has_shape : (w : List ℕ) → is_mark w ≡ true → mark_shape w ≡ true
@@ -113,7 +115,7 @@ run_covers test (x ∷ xs) ys e =
     rw here (omega arith)
 
 quote_no_word : is_word_byte 34 ≡ false
-unfolding is_word_byte is_letter is_digit
+unfolding is_word_byte begins_name is_letter is_upper is_digit
 quote_no_word = refl
 
 word_head : (b : ℕ) (bs : List ℕ) → is_word (b ∷ bs) ≡ true → is_word_byte b ≡ true

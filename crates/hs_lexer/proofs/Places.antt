@@ -11,8 +11,10 @@ use Rattle.hs_lexer.specs.declared.token.TokenKind.{TokenKind}
 use Rattle.hs_lexer.specs.declared.token.TokenKind.TheVariants.{Name, Text, Mark}
 use Rattle.hs_lexer.specs.declared.token.Token.{Token}
 use Rattle.hs_lexer.specs.declared.piece.Piece.{Piece}
-use Rattle.hs_lexer.specs.Bytes.{is_blank, is_in_line, is_word_byte, is_text_byte}
-use Rattle.hs_lexer.specs.Words.{is_mark}
+use Rattle.hs_base.specs.Names.{is_word_byte}
+use Rattle.hs_base.specs.Positions.{is_in_line}
+use Rattle.hs_lexer.specs.Bytes.{is_blank, is_text_byte}
+use Rattle.hs_lexer.specs.Marks.{is_mark}
 use Rattle.hs_lexer.specs.Pieces.{gap, spelling, spelled, kind_of_word, longest_front, begins_quote, piece_at, word_at, mark_of, mark_at, string_before, comment_before, spelling_at}
 use Rattle.hs_lexer.specs.Spellings.{is_word}
 use Rattle.hs_lexer.specs.Places.{Placed, IsNamed}

@@ -1,13 +1,12 @@
 -- Which tokens a text spells, and what it breaks where it spells none.
-use Rattle.std.specs.Prelude.{◌≡◌, ◌≢◌, ◌⊎◌, ℕ, ◌+◌, ◌<◌, ◌≤◌, List, [], ◌∷◌, ◌++◌, eqb, length, count_by, Option, Some, None, Ok, Err, drop}
-use Rattle.std.specs.List.{suffix_len}
+use Rattle.std.specs.Prelude.{◌≡◌, ◌≢◌, ◌⊎◌, ℕ, ◌+◌, ◌<◌, ◌≤◌, List, [], ◌∷◌, ◌++◌, length, Option, Some, None, Ok, Err, drop}
+pub use Rattle.hs_base.specs.Positions.{place_behind}
+use Rattle.hs_base.specs.Positions.{told_at}
 use Rattle.hs_base.specs.declared.rule.Rule.TheVariants.{S1}
-use Rattle.hs_base.specs.declared.place.Pos.{Pos}
 use Rattle.hs_base.specs.declared.place.Broken.{Broken}
 use Rattle.hs_lexer.specs.declared.token.TokenKind.{TokenKind}
 use Rattle.hs_lexer.specs.declared.token.Token.{Token}
 use Rattle.hs_lexer.specs.declared.piece.Piece.{Piece}
-use Rattle.hs_lexer.specs.Bytes.{is_in_line}
 use Rattle.hs_lexer.specs.Pieces.{piece_at}
 
 -- the text is these pieces, one after another, and then the rest: each is the one that begins at its place
@@ -30,16 +29,11 @@ abbrev pub Lexes : List ℕ → List Token → Type 0
 Lexes text tokens =
     (length text ≤ 262144) × ((pieces : List Piece) × Cut pieces text [] × (tokens ≡ tokens_of 0 pieces))
 
--- the place behind a text: bytes before it from 0; lines from 1; columns from 1, in bytes
-unfoldable pub place_behind : List ℕ → Pos
-place_behind before =
-    record { byte = length before; line = 1 + count_by (λ b. eqb b 10) before; col = 1 + suffix_len is_in_line before }
-
 -- the text breaks the rule there: S1 at its beginning where it is too long, otherwise the rule of the first place at which
 -- no piece begins
 abbrev pub LexBreak : List ℕ → Broken → Type 0
 LexBreak text broken =
-    ((262144 < length text) × (broken ≡ record { rule = S1; at = place_behind [] }))
+    ((262144 < length text) × (broken ≡ told_at text S1 0))
     ⊎ ((length text ≤ 262144)
     × ((pieces : List Piece) × (before : List ℕ) × (rest : List ℕ)
     × (text ≡ before ++ rest) × Cut pieces text rest

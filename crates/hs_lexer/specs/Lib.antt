@@ -1,5 +1,5 @@
 pub mod Bytes
-pub mod Words
+pub mod Marks
 pub mod Numbers
 pub mod Pieces
 pub mod Lexes

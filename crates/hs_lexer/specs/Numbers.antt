@@ -1,14 +1,14 @@
 -- Integers: a base, digits, an ending.
-use Rattle.std.specs.Prelude.{ℕ, ◌+◌, ◌-◌, ◌*◌, ◌^◌, List, [], ◌∷◌, Bool, true, ◌||◌, codes, eqb, ltb, leb, Option, Some, None, Result, Ok, Err, take, drop, filter, if◌then◌else◌}
-use Rattle.std.specs.List.{prefix_len, list_any, starts_with}
+use Rattle.std.specs.Prelude.{ℕ, ◌+◌, ◌-◌, ◌*◌, ◌^◌, List, [], ◌∷◌, Bool, true, ◌||◌, codes, bytes_eq, eqb, ltb, leb, Option, Some, None, Result, Ok, Err, take, drop, filter, if◌then◌else◌}
+use Rattle.std.specs.List.{prefix_len, list_any, starts_with, find}
 use Rattle.std.specs.Option.{option_map}
 use Rattle.std.specs.Char.{digit_value}
 use Rattle.std.specs.Str.Parse.{digits_value}
 use Rattle.hs_base.specs.declared.rule.Rule.{Rule}
 use Rattle.hs_base.specs.declared.rule.Rule.TheVariants.{X3, X4, X5, X6}
 use Rattle.hs_words.specs.declared.kinds.IntTy.{IntTy}
+use Rattle.hs_words.specs.declared.kinds.IntTy.TheVariants.{PU8, PU16, PU32, PU64, PU128, PUsize, PI8, PI16, PI32, PI64, PI128}
 use Rattle.hs_words.specs.Kind.{width_of, is_signed}
-use Rattle.hs_lexer.specs.Words.{kind_named}
 use Rattle.hs_lexer.specs.declared.token.TokenKind.{TokenKind}
 use Rattle.hs_lexer.specs.declared.token.TokenKind.TheVariants.{Int}
 
@@ -30,6 +30,18 @@ is_run_byte base b = is_digit_of base b || eqb b 95
 -- a value with one byte more, which counts where it is a digit
 abbrev pub value_with : ℕ → ℕ → ℕ → ℕ
 value_with base value b = if is_digit_of base b then value * base + digit_value b else value
+
+-- the endings of integers, each with the kind that it names
+abbrev pub suffixes : List (List ℕ × IntTy)
+suffixes =
+    (codes "u8", PU8) ∷ (codes "u16", PU16) ∷ (codes "u32", PU32) ∷ (codes "u64", PU64) ∷ (codes "u128", PU128)
+    ∷ (codes "usize", PUsize) ∷ (codes "i8", PI8) ∷ (codes "i16", PI16) ∷ (codes "i32", PI32) ∷ (codes "i64", PI64)
+    ∷ (codes "i128", PI128) ∷ []
+
+-- the kind of integers that an ending names
+unfoldable pub kind_named : List ℕ → Option IntTy
+kind_named ending =
+    option_map (λ (row : List ℕ × IntTy). row.1) (find (λ (row : List ℕ × IntTy). bytes_eq ending row.0) suffixes)
 
 -- an ending's suffix: none where it is empty, no answer where it names no public kind
 unfoldable pub suffix_of : List ℕ → Option (Option IntTy)

@@ -2,13 +2,15 @@
 use Rattle.std.specs.Prelude.{ℕ, zero, suc, ◌+◌, ◌-◌, List, [], ◌∷◌, Bool, false, ◌&&◌, codes, eqb, leb, bytes_eq, length, Option, Some, None, Result, Ok, Err, take, drop, if◌then◌else◌}
 use Rattle.std.specs.List.{prefix_len, take_while, starts_with}
 use Rattle.std.specs.Option.{option_map}
+use Rattle.hs_base.specs.Names.{is_digit, is_word_byte, is_reserved}
+use Rattle.hs_base.specs.Positions.{is_in_line}
 use Rattle.hs_base.specs.declared.rule.Rule.{Rule}
 use Rattle.hs_base.specs.declared.rule.Rule.TheVariants.{X1, X2, S9}
 use Rattle.hs_lexer.specs.declared.token.TokenKind.{TokenKind}
 use Rattle.hs_lexer.specs.declared.token.TokenKind.TheVariants.{Name, Reserved, Text, Mark}
 use Rattle.hs_lexer.specs.declared.piece.Piece.{Piece}
-use Rattle.hs_lexer.specs.Bytes.{is_blank, is_digit, is_word_byte, is_text_byte, is_in_line}
-use Rattle.hs_lexer.specs.Words.{is_reserved, is_mark}
+use Rattle.hs_lexer.specs.Bytes.{is_blank, is_text_byte}
+use Rattle.hs_lexer.specs.Marks.{is_mark}
 use Rattle.hs_lexer.specs.Numbers.{integer_of}
 
 -- a blank or a comment of this many bytes

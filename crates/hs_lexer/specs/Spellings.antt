@@ -1,9 +1,10 @@
 -- Spellings as a set of lists of bytes: words, strings and marks.
 use Rattle.std.specs.Prelude.{◌≡◌, ℕ, ◌+◌, ◌≤◌, List, [], ◌∷◌, ◌++◌, Bool, true, false, ◌||◌, ◌&&◌, eqb, length, drop}
 use Rattle.std.specs.List.{prefix_len, list_all}
+use Rattle.hs_base.specs.Names.{is_word_byte}
 use Rattle.hs_lexer.specs.declared.token.Token.{Token}
-use Rattle.hs_lexer.specs.Bytes.{is_word_byte, is_text_byte}
-use Rattle.hs_lexer.specs.Words.{is_mark}
+use Rattle.hs_lexer.specs.Bytes.{is_text_byte}
+use Rattle.hs_lexer.specs.Marks.{is_mark}
 use Rattle.hs_lexer.specs.Pieces.{begins_quote}
 
 -- names, reserved words and integers: letters, digits and `_`, at least one

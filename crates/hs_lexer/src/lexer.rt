@@ -1,18 +1,18 @@
 //! The tokens of a text.
 
 ghost use Rattle.std.specs.Prelude.{◌≡◌, ◌⊎◌, ◌+◌, ◌<◌, ◌≤◌, List, [], ◌++◌, length, take, drop, All, IfOk, IfErr};
+ghost use Rattle.hs_base.specs.Positions.{told_at};
 ghost use Rattle.hs_base.specs.declared.place.Broken.{Broken};
 ghost use Rattle.hs_lexer.specs.declared.token.Token.{Token};
 ghost use Rattle.hs_lexer.specs.declared.piece.Piece.{Piece};
 ghost use Rattle.hs_lexer.specs.Pieces.{piece_at};
 ghost use Rattle.hs_lexer.specs.Spellings.{IsLongest};
-ghost use Rattle.hs_lexer.specs.Lexes.{Lexes, LexBreak, token_before, place_behind};
-ghost use Rattle.hs_lexer.specs.Places.{Placed, IsNamed};
+ghost use Rattle.hs_lexer.specs.Lexes.{Lexes, LexBreak, token_before};
+ghost use Rattle.hs_lexer.specs.Places.{Placed, IsNamed, IsName};
 
 use crate::piece::piece_at;
-use crate::place::place_behind;
 use crate::token::{Token, Tokens};
-use hs_base::place::{Broken, Pos, Stop};
+use hs_base::place::{Broken, Stop};
 use hs_base::rule::Rule;
 use std::alloc::Global;
 
@@ -29,23 +29,22 @@ const MOST_BYTES: usize = 262_144;
 /// piece of it breaks a rule; the first such piece is told, at its first byte, with the least rule that it breaks: a byte
 /// that begins no token (X1), a block comment that is not closed (X2), an integer without a digit (X3), with a bad ending
 /// (X4), above 2^128 - 1 (X5) or too great for its suffix (X6), or a name of more than 64 bytes (S9). Columns count bytes.
-/// `NoMemory` comes only for want of memory.
+/// `NoMemory` comes only for want of memory, and of a text that is too long never.
 pub fn lex(alloc: Global, bytes: &[u8]) -> Result<Tokens, Stop>
     ensures tokens { IfOk result (λ tokens. Lexes bytes.now tokens) }
     ensures broken { IfErr result (λ stop. (b : Broken) → stop ≡ Stop.Broken b → LexBreak bytes.now b) }
+    ensures too_long { 262144 < length bytes.now → result ≡ Err (Stop.Broken (told_at bytes.now Rule.S1 0)) }
     ensures only_tokens { (tokens : List Token) → Lexes bytes.now tokens → (result ≡ Ok tokens) ⊎ (result ≡ Err Stop.NoMemory) }
     ensures only_break { (b : Broken) → LexBreak bytes.now b → (result ≡ Err (Stop.Broken b)) ⊎ (result ≡ Err Stop.NoMemory) }
     ensures apart { (tokens : List Token) (b : Broken) → Lexes bytes.now tokens → LexBreak bytes.now b → ⊥ }
     ensures placed { IfOk result (λ tokens. Placed 0 (length bytes.now) tokens) }
     ensures named { IfOk result (λ tokens. All (IsNamed bytes.now) tokens) }
+    ensures names { IfOk result (λ tokens. All (IsName bytes.now) tokens) }
     ensures longest { IfOk result (λ tokens. All (IsLongest bytes.now) tokens) }
     ensures one { (tokens others : List Token) → Lexes bytes.now tokens → Lexes bytes.now others → tokens ≡ others }
 {
     if bytes.len() > MOST_BYTES {
-        return Err(Stop::Broken(Broken {
-            rule: Rule::S1,
-            at: place_behind(&[]),
-        }));
+        return Err(Stop::Broken(Broken::told_at(bytes, Rule::S1, 0)));
     }
     read_pieces(alloc, bytes)
 }
@@ -70,14 +69,11 @@ fn read_piece(bytes: &[u8], at: usize, tokens: &mut Tokens) -> Result<usize, Sto
     requires short { length bytes.now ≤ 262144 }
     requires within { at < length bytes.now }
     ensures piece { IfOk result (λ end. (p : Piece) × (piece_at (drop at bytes.now) ≡ Ok p) × (end ≡ at + p.length) × (end ≤ length bytes.now) × (at < end) × (tokens.new ≡ tokens.old ++ token_before at p.length p.kind [])) }
-    ensures broken { IfErr result (λ stop. (b : Broken) → stop ≡ Stop.Broken b → (piece_at (drop at bytes.now) ≡ Err b.rule) × (b.at ≡ place_behind (take at bytes.now))) }
+    ensures broken { IfErr result (λ stop. (b : Broken) → stop ≡ Stop.Broken b → (piece_at (drop at bytes.now) ≡ Err b.rule) × (b ≡ told_at bytes.now b.rule at)) }
 {
     let piece = match piece_at(&bytes[at..]) {
         Ok(piece) => piece,
-        Err(rule) => {
-            let at = place_behind(&bytes[..at]);
-            return Err(Stop::Broken(Broken { rule, at }));
-        }
+        Err(rule) => return Err(Stop::Broken(Broken::told_at(bytes, rule, at))),
     };
     let end = at + piece.length;
     if let Some(kind) = piece.kind {

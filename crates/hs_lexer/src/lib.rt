@@ -3,14 +3,13 @@
 
 mod bytes;
 mod lexer;
+mod marks;
 mod number;
 mod piece;
-mod place;
 mod token;
-mod words;
 
+pub use hs_base::place::place_behind;
 pub use lexer::lex;
-pub use place::place_behind;
 pub use token::{Token, TokenKind, Tokens};
 
 #[cfg(test)]

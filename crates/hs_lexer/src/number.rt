@@ -3,10 +3,9 @@
 ghost use Rattle.std.specs.Prelude.{◌≡◌, ℕ, ◌+◌, ◌*◌, ◌≤◌, ◌<◌, ◌^◌, filter, take, drop, length, SomeIff};
 ghost use Rattle.std.specs.List.{prefix_len, list_any};
 ghost use Rattle.std.specs.Str.Parse.{digits_value};
-ghost use Rattle.hs_lexer.specs.Numbers.{based, is_digit_of, is_run_byte, value_with, suffix_of, fits, limited, integer_of};
+ghost use Rattle.hs_lexer.specs.Numbers.{based, is_digit_of, is_run_byte, value_with, kind_named, suffix_of, fits, limited, integer_of};
 
 use crate::token::TokenKind;
-use crate::words::kind_named;
 use hs_base::rule::Rule;
 use hs_words::IntTy;
 
@@ -81,6 +80,27 @@ fn value_of(base: u32, run: &[u8]) -> Option<u128>
         value = with_byte(value, base, *byte)?;
     }
     Some(value)
+}
+
+// The kind of integers that an ending names.
+#[tactic(auto, unfolding(crate::specs::Numbers::kind_named))]
+fn kind_named(ending: &[u8]) -> Option<IntTy>
+    ensures { result ≡ kind_named ending.now }
+{
+    match ending {
+        b"u8" => Some(IntTy::PU8),
+        b"u16" => Some(IntTy::PU16),
+        b"u32" => Some(IntTy::PU32),
+        b"u64" => Some(IntTy::PU64),
+        b"u128" => Some(IntTy::PU128),
+        b"usize" => Some(IntTy::PUsize),
+        b"i8" => Some(IntTy::PI8),
+        b"i16" => Some(IntTy::PI16),
+        b"i32" => Some(IntTy::PI32),
+        b"i64" => Some(IntTy::PI64),
+        b"i128" => Some(IntTy::PI128),
+        _ => None,
+    }
 }
 
 // No suffix where there is no ending, and no answer where the ending is none.

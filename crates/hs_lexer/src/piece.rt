@@ -2,15 +2,17 @@
 
 ghost use Rattle.std.specs.Prelude.{◌≡◌, ◌≤◌, ◌+◌, ◌<◌, length, IfOk, OnOk, IfSome, Option, Some, None};
 ghost use Rattle.std.specs.List.{prefix_len};
+ghost use Rattle.hs_base.specs.Names as names;
+ghost use Rattle.hs_base.specs.Positions.{is_in_line};
 ghost use Rattle.hs_lexer.specs.Bytes as class;
-ghost use Rattle.hs_lexer.specs.Words as words;
 ghost use Rattle.hs_lexer.specs.Pieces.{gap, spelling, spelled, kind_of_word, kind_of_name, word_at, string_before, longest_front, mark_at, spelling_at, closed_after, comment_before, piece_at};
 
-use crate::bytes::{is_text_byte, is_word_byte};
+use crate::bytes::is_text_byte;
+use crate::marks::is_mark;
 use crate::number::integer_of;
 use crate::token::TokenKind;
-use crate::words::{is_mark, is_reserved};
 use hs_base::rule::Rule;
+use hs_base::spelling::{is_reserved, is_word_byte};
 
 /// A blank, a comment or a spelling: its kind, which gaps have not, and how many bytes it has.
 #[derive(Clone, Copy, Debug)]
@@ -36,16 +38,16 @@ impl Piece {
     }
 }
 
-#[tactic(auto, unfolding(crate::specs::Bytes::is_in_line))]
+#[tactic(auto, unfolding(hs_base::specs::Positions::is_in_line))]
 fn line_length(rest: &[u8]) -> usize
-    ensures value { result ≡ prefix_len class.is_in_line rest.now }
+    ensures value { result ≡ prefix_len is_in_line rest.now }
     ensures within { result ≤ length rest.now }
 {
     rest.iter().take_while(|byte| **byte != b'\n').count()
 }
 
 fn word_length(rest: &[u8]) -> usize
-    ensures value { result ≡ prefix_len class.is_word_byte rest.now }
+    ensures value { result ≡ prefix_len names.is_word_byte rest.now }
     ensures within { result ≤ length rest.now }
 {
     rest.iter().take_while(|byte| is_word_byte(**byte)).count()
@@ -125,7 +127,7 @@ fn kind_of_name(word: &[u8]) -> Result<TokenKind, Rule>
     }
 }
 
-#[tactic(auto, unfolding(crate::specs::Pieces::kind_of_word, crate::specs::Bytes::is_digit))]
+#[tactic(auto, unfolding(crate::specs::Pieces::kind_of_word, hs_base::specs::Names::is_digit))]
 fn kind_of_word(word: &[u8]) -> Result<TokenKind, Rule>
     ensures kind { result ≡ kind_of_word word.now }
     ensures some { OnOk result (0 < length word.now) }

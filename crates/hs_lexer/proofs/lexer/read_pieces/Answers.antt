@@ -1,5 +1,6 @@
-use Rattle.std.proofs.Common.{arith}
+use Rattle.std.proofs.Common.{arith, ap}
 use Rattle.std.proofs.lemmas.Result.{err_from_is_err_and}
+use Rattle.hs_base.specs.declared.place.Broken.{Broken}
 use Rattle.hs_lexer.proofs.Cuts.{read_more, break_from}
 use Rattle.hs_lexer.proofs.Places.{placed_more}
 use Rattle.hs_lexer.proofs.lexer.read_pieces.Goals as goal
@@ -9,7 +10,7 @@ returns-in_err-at-clause-broken c =
     let told = err_from_is_err_and c.from_residual.result c.from_residual.ensures.1 in
     rw (told.1, told.2)
     (λ b e. let here = c.in_err-at.ensures.broken b e in
-    break_from c.args.bytes.now c.loop-at.at c.loop-at.tokens b c.loop-at.invariant.0 (omega arith) here.0 here.1 (omega arith))
+    break_from c.args.bytes.now c.loop-at.at c.loop-at.tokens b c.loop-at.invariant.0 (omega arith) here.0 (ap (λ (x : Broken). x.at) here.1) (omega arith))
 
 pub loop-at-preserved : goal.loop-at-preserved
 loop-at-preserved c =
