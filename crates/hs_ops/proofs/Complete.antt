@@ -1,7 +1,8 @@
--- Each operation that there is has its entry in the table of all operations, and no other has.
-use Rattle.std.proofs.Common.{◌≡◌, ℕ, zero, suc, ◌<◌, ◌≤◌, Bool, true, false, ◌&&◌, List, [], ◌∷◌, ◌++◌, map, IsTrue, ◌↔◌, ◌⊎◌, inl, inr, refl, sym, ap, subst, arith}
+-- Each operation that there is stands in the table of all operations under its own name, and no other does.
+use Rattle.std.proofs.Common.{◌≡◌, ℕ, zero, suc, ◌<◌, ◌≤◌, Bool, true, false, ◌&&◌, List, [], ◌∷◌, ◌++◌, map, IsTrue, ◌↔◌, ◌⊎◌, inl, inr, refl, sym, ap, subst, ◌∙◌, arith}
+use Rattle.std.proofs.lemmas.List.{append_cancel_left}
 use Rattle.std.proofs.lemmas.Bool.Decides.{nat_tests}
-use Rattle.std.specs.Prelude.{leb, nat_lt, cond}
+use Rattle.std.specs.Prelude.{leb, nat_lt, cond, Some, None, slice_get}
 use Rattle.std.specs.List.{Contains, filter, list_all}
 use Rattle.hs_words.specs.declared.kinds.IntTy.{IntTy}
 use Rattle.hs_words.specs.declared.kinds.IntTy.TheVariants.{PU8, PU16, PU32, PU64, PU128, PUsize, PI8, PI16, PI32, PI64, PI128, SU8, SU16, SU32, SU64, SU128}
@@ -11,10 +12,13 @@ use Rattle.hs_ops.specs.declared.operation.SingleOp.{SingleOp}
 use Rattle.hs_ops.specs.declared.operation.SingleOp.TheVariants.{BoolNot, Same, Differ, Item, Set, Len, Make, ListOf, Concat, Push, Slice, Put, NumChunks, GetChunk, SetChunk, ToArray, ToSeq, OptUnwrap, ResUnwrap, OptIsSome, OptIsNone, ResIsOk, ResIsErr, Clone}
 use Rattle.hs_ops.specs.declared.operation.Operation.{Operation}
 use Rattle.hs_ops.specs.declared.operation.Operation.TheVariants.{Number, Cast, Part, SetPart, Single}
-use Rattle.hs_ops.specs.declared.table.Entry.{Entry}
 use Rattle.hs_ops.specs.Known.{is_known}
-use Rattle.hs_ops.specs.Standard.{entry_for, rows_of, for_kind, for_kinds, places, for_tuple, for_tuples, first_singles, middle_singles, last_singles, signed_kinds, secret_kinds, unsigned_kinds, counts, standard_table}
-use Rattle.hs_ops.proofs.Computed.{all_known}
+use Rattle.hs_ops.specs.Names.{name_of}
+use Rattle.hs_ops.specs.Table.{Table, called, names, operation_named}
+use Rattle.hs_ops.specs.Standard.{for_kind, for_kinds, places, for_tuple, for_tuples, first_singles, middle_singles, last_singles, signed_kinds, secret_kinds, unsigned_kinds, counts, standard_operations, standard_table}
+use Rattle.hs_ops.proofs.Computed.{all_known, standard_sorted}
+use Rattle.hs_ops.proofs.Order.{rising-Distinct}
+use Rattle.hs_ops.proofs.Entries.{name_at, named_at, foreign_named}
 
 -- x stands in the list
 abbrev Has : {X : Type 0} → List X → X → Type 0
@@ -53,9 +57,10 @@ contains_has [] x h = absurd h
 contains_has (y ∷ xs) x (inl e) = (zero, omega arith, e)
 contains_has (y ∷ xs) x (inr h) = let c = contains_has xs x h in (suc c.0, omega (arith, c.1), c.2)
 
-has_rows : (os : List Operation) (o : Operation) → Has os o → is_known o ≡ true → Has (rows_of os) (entry_for o)
-unfolding rows_of
-has_rows os o h k = has_map entry_for (filter is_known os) o (has_filter is_known os o h k)
+place_has : {X : Type 0} (xs : List X) (x : X) → Has xs x → (k : ℕ) × (slice_get xs k ≡ Some x)
+place_has [] x h = absurd h
+place_has (y ∷ xs) x (inl e) = (zero, ap Some e)
+place_has (y ∷ xs) x (inr h) = let p = place_has xs x h in (suc p.0, p.1)
 
 number_there : (o : NumberOp) (k : IntTy) → Has (for_kind k) (Number o k)
 unfolding for_kind
@@ -251,24 +256,60 @@ there (Part n i) h = let b = tuple_bounds n i h in in_tuples (Part n i) (tuples_
 there (SetPart n i) h = let b = tuple_bounds n i h in in_tuples (SetPart n i) (tuples_there counts n (SetPart n i) (count_there n b.0 b.1) (set_part_there n i b.2))
 there (Single o) h = single_there o
 
--- each operation that there is has its entry
-has_entry : (o : Operation) → is_known o ≡ true → Contains standard_table (entry_for o)
-unfolding standard_table
-has_entry o h = contains_has (rows_of all) (entry_for o) (has_rows all o (there o h) h)
+-- each operation that there is stands in the table
+standard_has : (o : Operation) → is_known o ≡ true → Has standard_operations o
+unfolding standard_operations
+standard_has o h = has_filter is_known all o (there o h) h
 
-known_at : (es : List Entry) (e : Entry) → list_all (λ e. is_known e.operation) es ≡ true → Contains es e → is_known e.operation ≡ true
-known_at [] e h c = absurd (omega (arith, c.1))
-known_at (x ∷ es) e h (zero, l, same) = subst (λ (y : Entry). is_known y.operation ≡ true) same (first (is_known x.operation) (list_all (λ e. is_known e.operation) es) h)
+known_at : (os : List Operation) (o : Operation) → list_all is_known os ≡ true → Contains os o → is_known o ≡ true
+known_at [] o h c = absurd (omega (arith, c.1))
+known_at (x ∷ os) o h (zero, l, same) = subst (λ (y : Operation). is_known y ≡ true) same (first (is_known x) (list_all is_known os) h)
   where
     first : (a b : Bool) → a && b ≡ true → a ≡ true
     first true b h = refl
     first false b h = cc h
-known_at (x ∷ es) e h (suc k, l, same) = known_at es e (rest (is_known x.operation) (list_all (λ e. is_known e.operation) es) h) (k, omega arith, same)
+known_at (x ∷ os) o h (suc k, l, same) = known_at os o (rest (is_known x) (list_all is_known os) h) (k, omega arith, same)
   where
     rest : (a b : Bool) → a && b ≡ true → b ≡ true
     rest true b h = h
     rest false b h = cc h
 
--- the table has the entries of the operations that there are
-pub complete : (o : Operation) → IsTrue (is_known o) ↔ Contains standard_table (entry_for o)
-complete o = (has_entry o, λ c. known_at standard_table (entry_for o) all_known c)
+-- the table has the operations that there are
+pub complete : (o : Operation) → IsTrue (is_known o) ↔ Contains standard_operations o
+complete o = (λ h. contains_has standard_operations o (standard_has o h), λ c. known_at standard_operations o all_known c)
+
+-- where an operation stands in the table
+standard_place : (o : Operation) → is_known o ≡ true → (k : ℕ) × (slice_get standard_operations k ≡ Some o)
+standard_place o h = place_has standard_operations o (standard_has o h)
+
+-- the table calls the operation at a place by its name
+standard_name : (o : Operation) (k : ℕ) → slice_get standard_operations k ≡ Some o → slice_get (names standard_table) k ≡ Some (name_of o)
+standard_name o k h = name_at standard_table k o h
+
+-- no two operations that there are have one name
+pub names_differ : (a b : Operation) → is_known a ≡ true → is_known b ≡ true → name_of a ≡ name_of b → a ≡ b
+names_differ a b h g e =
+    let i = standard_place a h in
+    let j = standard_place b g in
+    let same : i.0 ≡ j.0 = rising-Distinct (names standard_table) standard_sorted i.0 j.0 (name_of a) (standard_name a i.0 i.1) (standard_name b j.0 j.1 ∙ ap Some (sym e)) in
+    some_same (sym i.1 ∙ ap (slice_get standard_operations) same ∙ j.1)
+  where
+    some_same : {x y : Operation} → Some x ≡ Some y → x ≡ y
+    some_same e = cc e
+
+-- the operation at a place is the one whose name the table has there
+pub called_there : (t : Table) (i : ℕ) (o x : Operation) → is_known o ≡ true → is_known x ≡ true → slice_get t.operations i ≡ Some x → slice_get (names t) i ≡ Some (called t o) → x ≡ o
+called_there t i o x h g at name = names_differ x o g h (append_cancel_left t.prefix (name_of x) (name_of o) (some_same (sym (name_at t i x at) ∙ name)))
+  where
+    some_same : {a b : List ℕ} → Some a ≡ Some b → a ≡ b
+    some_same e = cc e
+
+-- an operation that there is stands under its name
+pub standard_named : (o : Operation) → is_known o ≡ true → operation_named standard_table (name_of o) ≡ Some o
+standard_named o h =
+    let i = standard_place o h in
+    named_at standard_table (name_of o) i.0 (rising-Distinct (names standard_table) standard_sorted) (standard_name o i.0 i.1) ∙ i.1
+
+-- and none under another name
+pub standard_foreign : (name : List ℕ) → ((o : Operation) → is_known o ≡ true → name_of o ≡ name → ⊥) → operation_named standard_table name ≡ None
+standard_foreign name h = foreign_named standard_table name all_known h

@@ -1,9 +1,9 @@
 -- The test of sameness tells one value from others.
-use Rattle.std.proofs.Common.{◌≡◌, ℕ, eqb, Bool, true, false, ◌&&◌, List, [], ◌∷◌, map, refl, ap, sym, subst, ◌∙◌, rules}
+use Rattle.std.proofs.Common.{◌≡◌, ℕ, eqb, Bool, true, false, ◌&&◌, List, [], ◌∷◌, inl, inr, map, refl, ap, sym, subst, ◌∙◌, rules}
 use Rattle.std.proofs.lemmas.Bool.Decides.{Decides-int_eq, Decides-eqb}
 use Rattle.std.specs.Bool.{Decides}
 use Rattle.std.specs.Ordering.{int_eq}
-use Rattle.std.specs.Prelude.{ℤ}
+use Rattle.std.specs.Prelude.{ℤ, not, Result, Ok, Err}
 use Rattle.hs_words.specs.declared.kinds.IntTy.{IntTy}
 use Rattle.hs_words.specs.Word.{Integer}
 use Rattle.hs_values.specs.Kinds.{is_kind, is_kind-equal, is_kind-refl}
@@ -14,6 +14,9 @@ use Rattle.hs_values.specs.declared.value.Value.TheOpen.{Value-F}
 use Rattle.hs_values.specs.declared.value.Value.TheOpen as layer
 use Rattle.hs_values.specs.declared.value.Value.TheFolds.{map-Value, fold-roll-Value, ind-Value}
 use Rattle.hs_values.specs.declared.value.Value.TheViews.{roll-Value}
+use Rattle.hs_ops.specs.declared.row.OpStop.{OpStop}
+use Rattle.hs_ops.specs.declared.row.OpStop.TheVariants as stop
+use Rattle.hs_ops.specs.Answer.{Tells, TellsWhether, truth}
 use Rattle.hs_ops.specs.Parts.{is_same, same_each, same_layer, same_sort, same_truth}
 
 abbrev Told : Value → Type 0
@@ -144,3 +147,27 @@ level y w =
 -- the test tells whether two values are one value
 pub is_same-Decides : (v w : Value) → Decides (is_same v w) (v ≡ w)
 is_same-Decides = ind-Value Told (λ x y is. subst (λ z. Told (roll-Value z)) is (level y))
+
+clash : (b : Bool) → b ≡ true → b ≡ false → ⊥
+clash b t f = cc (t, f)
+
+-- what `same` and `differ` give is told by whether two values are one
+pub same_tells : (r : Result Value OpStop) (a b : Value) → Tells r (truth (is_same a b)) → TellsWhether r (a ≡ b)
+same_tells r a b = by r (is_same a b) refl
+  where
+    by : (r : Result Value OpStop) (t : Bool) → is_same a b ≡ t → Tells r (truth t) → TellsWhether r (a ≡ b)
+    by (Ok v) true e h = inl (cc h, (is_same-Decides a b).0 e)
+    by (Ok v) false e h = inr (cc h, λ s. clash (is_same a b) ((is_same-Decides a b).1 s) e)
+    by (Err (stop.Panic p)) t e h = cc h
+    by (Err stop.Kind) t e h = cc h
+    by (Err stop.NoMemory) t e h = tt
+
+pub differ_tells : (r : Result Value OpStop) (a b : Value) → Tells r (truth (not (is_same a b))) → TellsWhether r (a ≡ b → ⊥)
+differ_tells r a b = by r (is_same a b) refl
+  where
+    by : (r : Result Value OpStop) (t : Bool) → is_same a b ≡ t → Tells r (truth (not t)) → TellsWhether r (a ≡ b → ⊥)
+    by (Ok v) true e h = inr (cc h, λ no. no ((is_same-Decides a b).0 e))
+    by (Ok v) false e h = inl (cc h, λ s. clash (is_same a b) ((is_same-Decides a b).1 s) e)
+    by (Err (stop.Panic p)) t e h = cc h
+    by (Err stop.Kind) t e h = cc h
+    by (Err stop.NoMemory) t e h = tt

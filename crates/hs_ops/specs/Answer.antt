@@ -1,5 +1,5 @@
 -- What an operation gives for its arguments.
-use Rattle.std.specs.Prelude.{◌≡◌, ⊤, ℕ, Bool, Option, Some, None, List, [], ◌∷◌, Result, Ok, Err, pos}
+use Rattle.std.specs.Prelude.{◌≡◌, ⊤, ◌⊎◌, ℕ, Bool, true, false, Option, Some, None, List, [], ◌∷◌, Result, Ok, Err, pos}
 use Rattle.hs_words.specs.Word.{Integer}
 use Rattle.hs_words.specs.declared.kinds.IntTy.TheVariants.{PUsize}
 use Rattle.hs_words.specs.declared.kinds.Panic.{Panic}
@@ -87,3 +87,9 @@ Tells (Err s) answer = Stops s answer
 abbrev pub Views : {A : Type 0} → Result A OpStop → Option A → Type 0
 Views (Ok a) view = view ≡ Some a
 Views (Err s) view = (s ≡ stop.Kind) × (view ≡ None)
+
+-- a call gives the truth value that tells whether the fact holds; only want of memory is free
+abbrev pub TellsWhether : Result Value OpStop → Type 0 → Type 0
+TellsWhether (Ok v) fact = ((v ≡ value.Bool true) × fact) ⊎ ((v ≡ value.Bool false) × (fact → ⊥))
+TellsWhether (Err stop.NoMemory) fact = ⊤
+TellsWhether (Err s) fact = ⊥

@@ -10,11 +10,12 @@ use Rattle.hs_ops.specs.declared.operation.Operation.TheVariants.{Number, Cast, 
 use Rattle.hs_ops.specs.declared.table.Entry.{Entry}
 use Rattle.hs_ops.specs.Known.{is_known}
 use Rattle.hs_ops.specs.Names.{name_of}
-use Rattle.hs_ops.specs.Table.{entry_of}
+use Rattle.hs_ops.specs.Row.{row_of}
+use Rattle.hs_ops.specs.Table.{Table}
 
 -- the entry of an operation under its own name
 abbrev pub entry_for : Operation → Entry
-entry_for o = entry_of (name_of o) o
+entry_for o = record { row = row_of (name_of o) o; operation = o }
 
 -- the entries of those of these operations that there are
 unfoldable pub rows_of : List Operation → List Entry
@@ -63,8 +64,12 @@ unsigned_kinds = PU128 ∷ PU16 ∷ PU32 ∷ PU64 ∷ PU8 ∷ PUsize ∷ []
 abbrev pub counts : List ℕ
 counts = 10 ∷ 11 ∷ 12 ∷ 2 ∷ 3 ∷ 4 ∷ 5 ∷ 6 ∷ 7 ∷ 8 ∷ 9 ∷ []
 
--- the table of all operations, in the order of their names
-unfoldable pub standard_table : List Entry
-standard_table = rows_of (
+-- the operations that there are, in the order of their names
+unfoldable pub standard_operations : List Operation
+standard_operations = filter is_known (
     first_singles ++ for_kinds signed_kinds ++ middle_singles ++ for_kinds secret_kinds
     ++ last_singles ++ for_tuples counts ++ for_kinds unsigned_kinds)
+
+-- the table of all operations, each under its own name
+abbrev pub standard_table : Table
+standard_table = record { prefix = []; operations = standard_operations }

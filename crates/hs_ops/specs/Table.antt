@@ -1,5 +1,5 @@
 -- Tables of operations: rows in the order of their names, each with the operation that it stands for.
-use Rattle.std.specs.Prelude.{◌≡◌, ℕ, ◌≤◌, Bool, true, ◌&&◌, List, [], ◌∷◌, length, map, Option, Some, None, option_map, slice_get, bytes_eq, if◌then◌else◌, IsTrue}
+use Rattle.std.specs.Prelude.{◌≡◌, ℕ, ◌≤◌, Bool, true, ◌&&◌, List, [], ◌∷◌, ◌++◌, length, map, Option, Some, None, option_map, slice_get, bytes_eq, if◌then◌else◌, IsTrue}
 use Rattle.std.specs.List.{list_all}
 use Rattle.std.specs.Cmp.Lexicographic.{slice_cmp}
 use Rattle.std.specs.Ordering.{nat_cmp, is_lt}
@@ -7,14 +7,24 @@ use Rattle.hs_values.specs.declared.value.Value.{Value}
 use Rattle.hs_ops.specs.Answer.{Answer, given}
 use Rattle.hs_ops.specs.Op.{answer}
 use Rattle.hs_ops.specs.Known.{is_known}
+use Rattle.hs_ops.specs.Names.{name_of}
 use Rattle.hs_ops.specs.Row.{row_of}
 use Rattle.hs_ops.specs.declared.row.OpRow.{OpRow}
 use Rattle.hs_ops.specs.declared.operation.Operation.{Operation}
 use Rattle.hs_ops.specs.declared.table.Entry.{Entry}
 
+-- a table: the bytes before each name, and the operations of its rows in order
+pub record Table : Type 0 where
+  pub prefix : List ℕ
+  pub operations : List Operation
+
+-- how a table calls an operation: by its name behind the prefix
+abbrev pub called : Table → Operation → List ℕ
+called t o = t.prefix ++ name_of o
+
 -- the names of the rows
-abbrev pub names : List Entry → List (List ℕ)
-names = map (λ e. e.row.name)
+abbrev pub names : Table → List (List ℕ)
+names t = map (called t) t.operations
 
 -- whether each name is below the next, byte by byte
 abbrev pub rising : List (List ℕ) → Bool
@@ -26,40 +36,53 @@ rising (x ∷ y ∷ ys) = is_lt (slice_cmp nat_cmp x y) && rising (y ∷ ys)
 abbrev pub Distinct : List (List ℕ) → Type 0
 Distinct xs = (i j : ℕ) (x : List ℕ) → slice_get xs i ≡ Some x → slice_get xs j ≡ Some x → i ≡ j
 
--- the entry of an operation that is called so
-abbrev pub entry_of : List ℕ → Operation → Entry
-entry_of name o = record { row = row_of name o; operation = o }
+-- the row of an operation, as a table calls it
+abbrev pub row_in : Table → Operation → OpRow
+row_in t o = row_of (called t o) o
 
--- the entry with the row that its operation has
-abbrev pub remade : Entry → Entry
-remade e = entry_of e.row.name e.operation
+-- the row with its operation
+abbrev pub entry_in : Table → Operation → Entry
+entry_in t o = record { row = row_in t o; operation = o }
 
--- what every table keeps: n rows, at most 65,536, with rising names, each that of an operation that there is
-pub record IsTable (n : ℕ) (entries : List Entry) : Type 0 where
+-- the table with these entries, whose names begin with the prefix
+abbrev pub table_of : List ℕ → List Entry → Table
+table_of prefix entries = record { prefix = prefix; operations = map (λ e. e.operation) entries }
+
+-- what every table keeps: n rows, at most 65,536, with rising names, each that of an operation that there is, and called as the
+-- table calls the operation
+pub record IsTable (n : ℕ) (t : Table) (entries : List Entry) : Type 0 where
   pub count : length entries ≡ n
   pub bounded : n ≤ 65536
-  pub sorted : IsTrue (rising (names entries))
-  pub whole : map remade entries ≡ entries
-  pub known : IsTrue (list_all (λ e. is_known e.operation) entries)
+  pub sorted : IsTrue (rising (names t))
+  pub whole : map (entry_in t) t.operations ≡ entries
+  pub known : IsTrue (list_all is_known t.operations)
 
--- the entry of the row that has the name, where one has it
-abbrev pub entry_named : List Entry → List ℕ → Option Entry
-entry_named [] name = None
-entry_named (e ∷ es) name = if bytes_eq e.row.name name then Some e else entry_named es name
+-- the first of these operations that is called so behind a prefix
+abbrev pub first_called : List ℕ → List Operation → List ℕ → Option Operation
+first_called prefix [] name = None
+first_called prefix (o ∷ os) name = if bytes_eq (prefix ++ name_of o) name then Some o else first_called prefix os name
 
--- the entry at a place, where there is a place
-abbrev pub entry_at : List Entry → Option ℕ → Option Entry
-entry_at entries None = None
-entry_at entries (Some i) = slice_get entries i
+-- the operation of the row that has the name, where one has it
+abbrev pub operation_named : Table → List ℕ → Option Operation
+operation_named t name = first_called t.prefix t.operations name
+
+-- the operation of the row of this number, where there is a number
+abbrev pub operation_at : Table → Option ℕ → Option Operation
+operation_at t None = None
+operation_at t (Some i) = slice_get t.operations i
 
 -- what the operation of this name gives for arguments
-abbrev pub answer_named : List Entry → List ℕ → List Value → Answer
-answer_named entries name args = given (entry_named entries name) (λ e. answer e.operation args)
+abbrev pub answer_named : Table → List ℕ → List Value → Answer
+answer_named t name args = given (operation_named t name) (λ o. answer o args)
 
 -- the row of this number
-abbrev pub row_at : List Entry → ℕ → Option OpRow
-row_at entries i = option_map (λ e. row_of e.row.name e.operation) (slice_get entries i)
+abbrev pub row_at : Table → ℕ → Option OpRow
+row_at t i = option_map (row_in t) (slice_get t.operations i)
 
 -- what the row of this number gives for arguments
-abbrev pub answer_at : List Entry → ℕ → List Value → Answer
-answer_at entries i args = given (slice_get entries i) (λ e. answer e.operation args)
+abbrev pub answer_at : Table → ℕ → List Value → Answer
+answer_at t i args = given (slice_get t.operations i) (λ o. answer o args)
+
+-- whether the row of this number is that of the operation
+abbrev pub StandsFor : Table → ℕ → Operation → Type 0
+StandsFor t i o = slice_get t.operations i ≡ Some o

@@ -1,10 +1,12 @@
 //! The table of all operations.
 
-ghost use Rattle.std.specs.Prelude.{◌≡◌, ◌↔◌, ◌∷◌, ◌++◌, [], IsTrue, IfOk, OnOk};
+ghost use Rattle.std.specs.Prelude.{◌≡◌, ◌≢◌, ◌↔◌, ℕ, List, ◌∷◌, ◌++◌, [], map, Some, None, IsTrue, IfOk, OnOk};
 ghost use Rattle.std.specs.List.{Contains};
 ghost use Rattle.hs_ops.specs.declared.operation.Operation.{Operation};
 ghost use Rattle.hs_ops.specs.Known.{is_known};
-ghost use Rattle.hs_ops.specs.Standard.{entry_for, standard_table, rows_of, for_kind, for_kinds, for_tuple, for_tuples};
+ghost use Rattle.hs_ops.specs.Names.{name_of};
+ghost use Rattle.hs_ops.specs.Table.{operation_named};
+ghost use Rattle.hs_ops.specs.Standard.{entry_for, standard_operations, standard_table, rows_of, for_kind, for_kinds, for_tuple, for_tuples};
 
 use crate::known::is_known;
 use crate::name::name_of;
@@ -12,6 +14,7 @@ use crate::operation::{NumberOp, Operation, SingleOp};
 use crate::row::row_of;
 use crate::table::{Entry, OpTable};
 use hs_base::memory::NoMemory;
+use hs_base::name::Name;
 use hs_words::IntTy;
 use sqlite_items::Items;
 use std::alloc::Global;
@@ -218,7 +221,7 @@ fn push_tuples(alloc: Global, entries: &mut Items<Entry>, counts: &[u32]) -> Res
 
 /// The entries of all operations.
 fn all_entries(alloc: Global) -> Result<Items<Entry>, NoMemory>
-    ensures { IfOk result (λ entries. entries ≡ standard_table) }
+    ensures { IfOk result (λ entries. entries ≡ map entry_for standard_operations) }
 {
     let mut entries = Items::new(alloc);
     push_all(alloc, &mut entries, &FIRST_SINGLES)?;
@@ -238,7 +241,11 @@ fn all_entries(alloc: Global) -> Result<Items<Entry>, NoMemory>
 /// `NoMemory` only for want of memory.
 pub fn standard(alloc: Global) -> Result<OpTable<OPS>, NoMemory>
     ensures table { IfOk result (λ table. table ≡ standard_table) }
-    ensures complete { IfOk result (λ table. (o : Operation) → IsTrue (is_known o) ↔ Contains table (entry_for o)) }
+    ensures prefix { IfOk result (λ table. table.prefix ≡ []) }
+    ensures complete { IfOk result (λ table. (o : Operation) → IsTrue (is_known o) ↔ Contains table.operations o) }
+    ensures named { IfOk result (λ table. (o : Operation) → IsTrue (is_known o) → operation_named table (name_of o) ≡ Some o) }
+    ensures foreign { IfOk result (λ table. (name : List ℕ) → ((o : Operation) → IsTrue (is_known o) → name_of o ≢ name) → operation_named table name ≡ None) }
 {
-    Ok(OpTable::from_entries(all_entries(alloc)?))
+    let prefix = Name::of(alloc, "")?;
+    Ok(OpTable::from_entries(prefix, all_entries(alloc)?))
 }

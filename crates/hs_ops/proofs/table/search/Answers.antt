@@ -1,7 +1,6 @@
 use Rattle.std.proofs.Common.{sym, arith}
 use Rattle.hs_ops.specs.declared.table.Entry.{Entry}
-use Rattle.hs_ops.proofs.Entries.{entry_named-found, entry_named-absent}
-use Rattle.hs_ops.proofs.Order.{rising-Distinct, narrowed_up, narrowed_down, narrowed_found, narrowed_absent}
+use Rattle.hs_ops.proofs.Order.{narrowed_up, narrowed_down, narrowed_found, narrowed_absent}
 use Rattle.hs_ops.proofs.table.search.Goals as goal
 
 pub loop-low-preserved-in-Less : goal.loop-low-preserved-in-Less
@@ -18,9 +17,3 @@ loop-low-preserved c =
 
 pub returns-clause-absent : goal.returns-clause-absent
 returns-clause-absent c = narrowed_absent (λ (e : Entry). e.row.name) c.args.entries.now c.args.name.now c.loop-low.low c.loop-low.high c.loop-low.invariant c.loop-low-test.false
-
-pub returns-in-Equal-clause-named : goal.returns-in-Equal-clause-named
-returns-in-Equal-clause-named c = entry_named-found c.args.entries.now c.args.name.now _ (rising-Distinct _ c.requires) (returns-in-Equal-clause-found c)
-
-pub returns-clause-named : goal.returns-clause-named
-returns-clause-named c = entry_named-absent c.args.entries.now c.args.name.now (returns-clause-absent c)
