@@ -1,16 +1,18 @@
 -- The theorems on the grammar as it is written, by the parser of the one that is parsed.
-use Rattle.std.proofs.Common.{◌≡◌, ℕ, ◌+◌, ◌-◌, ◌≤◌, arith, List, [], ◌∷◌, ◌++◌, Result, Ok, Err, length, length-append, sym, ap, ◌∙◌, subst}
+use Rattle.std.proofs.Common.{◌≡◌, ℕ, ◌+◌, ◌-◌, ◌*◌, ◌<◌, ◌≤◌, arith, List, [], ◌∷◌, ◌++◌, Result, Ok, Err, length, length-append, sym, ap, ◌∙◌, subst, append_assoc}
 use Rattle.hs_grammar.specs.declared.error.Refusal.{Refusal}
 use Rattle.hs_grammar.specs.declared.error.Refusal.TheVariants as refusals
-use Rattle.hs_grammar.specs.Whole.{StopsAt, Finishes, ParseBreak, Parses, Only}
+use Rattle.hs_grammar.specs.Whole.{StopsAt, Finishes, ParseBreak, Parses, ParsesAll, Only}
 use Rattle.hs_grammar.specs.Form.{Lexis, Rules, Grammar}
 use Rattle.hs_grammar.specs.Kinds.{Tells}
-use Rattle.hs_grammar.specs.Derives.{DerivesBy, DerivesAs}
+use Rattle.hs_grammar.specs.Derives.{DerivesBy, DerivesAs, IsBegun}
 use Rattle.hs_grammar.specs.Break.{Breaks}
 use Rattle.hs_grammar.specs.Lookahead.{Tables, FitsRule}
+use Rattle.hs_grammar.specs.Depth.{Ranked}
 use Rattle.hs_grammar.specs.Parser.{Res, Done, Stop, Deep, parse_by, Exact}
 use Rattle.hs_grammar.specs.Same.{SameGrammars}
 use Rattle.hs_grammar.proofs.Heights as whole
+use Rattle.hs_grammar.proofs.Depths.{Shallow, deep_enough}
 use Rattle.hs_grammar.proofs.Same.{derived_to, derives_to, derives_from, breaks_from}
 
 module _ {L : Lexis} {R : Rules} (K : Tells L) (h g : Grammar L R) (each : SameGrammars h g) (τ : Tables L R) (fits : (N : R.rule) → FitsRule τ g N) where
@@ -61,3 +63,28 @@ module _ {L : Lexis} {R : Rules} (K : Tells L) (h g : Grammar L R) (each : SameG
   only n N w x (Err (refusals.At place)) d (rest, b, e) = apart N w rest x b d
   only n N w x (Err refusals.TooDeep) d p = tt
   only n N w x (Err refusals.NoMemory) d p = tt
+
+  -- what is derived is derived by the grammar that is parsed
+  pub agrees : (N : R.rule) (w : List L.token) (x : R.value N) → DerivesAs h N w x → DerivesAs g N w x
+  agrees N w x d = derives_to h g each N w x d
+
+  -- what a rule derives begins it
+  pub begun : (N : R.rule) (w : List L.token) (x : R.value N) → DerivesAs h N w x → IsBegun h N w
+  begun N w x (m, d) = (m, whole.begun_of τ h m N w x d)
+
+  -- a break of a front is one of the whole
+  pub farther : (N : R.rule) (w more : List L.token) (place : ℕ) → place < length w → ParseBreak h N w place → ParseBreak h N (w ++ more) place
+  farther N w more place lt ([], b, e) = absurd (omega arith)
+  farther N w more place lt ((t ∷ rest), b, e) = (
+    (t ∷ rest) ++ more,
+    record { before = b.before; whole = ap (λ z. z ++ more) b.whole ∙ append_assoc b.before (t ∷ rest) more; begun = b.begun; over = b.over },
+    omega (arith, e, length-append w more, length-append (t ∷ rest) more),
+  )
+
+  -- the parser is never too deep within this depth
+  pub parses_all : (rank : R.rule → ℕ) (ranks : ℕ) → Ranked τ g rank ranks → (n : ℕ) (N : R.rule) (w : List L.token) (r : Result (R.value N) Refusal)
+      → rank N + ranks * length w < n → Finishes (parse_by τ g n N w) w r → ParsesAll h N w r
+  parses_all rank ranks k n N w (Ok x) room f = parses n N w (Ok x) f
+  parses_all rank ranks k n N w (Err (refusals.At place)) room f = parses n N w (Err (refusals.At place)) f
+  parses_all rank ranks k n N w (Err refusals.TooDeep) room f = subst Shallow f (deep_enough K τ g fits rank ranks k.below k.falls n N w room)
+  parses_all rank ranks k n N w (Err refusals.NoMemory) room f = tt

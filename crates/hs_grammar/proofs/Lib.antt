@@ -4,6 +4,7 @@ pub mod Ahead
 pub mod Heights
 pub mod Fits
 pub mod Unrolls
+pub mod Depths
 pub mod Same
 pub mod Lists
 pub mod Repeats

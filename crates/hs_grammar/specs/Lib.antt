@@ -3,6 +3,7 @@ pub mod Kinds
 pub mod Derives
 pub mod Break
 pub mod Lookahead
+pub mod Depth
 pub mod Parser
 pub mod Same
 pub mod Words

@@ -31,6 +31,13 @@ Parses g N depth w (Err (refusals.At place)) = ParseBreak g N w place
 Parses {L} {R} g N depth w (Err refusals.TooDeep) = (m : ℕ) (x : R.value N) → m ≤ depth → DerivesBy g m N w x → ⊥
 Parses g N depth w (Err refusals.NoMemory) = Unit {0}
 
+-- the answer of a parser that nests rules as deep as the tokens ask: what they derive, or the place where they break
+abbrev pub ParsesAll : {L : Lexis} {R : Rules} → Grammar L R → (N : R.rule) → List L.token → Result (R.value N) Refusal → Type 0
+ParsesAll g N w (Ok x) = DerivesAs g N w x
+ParsesAll g N w (Err (refusals.At place)) = ParseBreak g N w place
+ParsesAll g N w (Err refusals.TooDeep) = ⊥
+ParsesAll g N w (Err refusals.NoMemory) = Unit {0}
+
 -- what is derived is answered as it is, unless it nests too deep or memory runs out
 abbrev pub Only : {A : Type 0} → A → Result A Refusal → Type 0
 Only x (Ok y) = y ≡ x

@@ -18,3 +18,15 @@ returns-clause-parses g c = grammars.parses g.G.Grammar.tells g.G.Grammar.writte
 
 pub returns-clause-only : goal.returns-clause-only
 returns-clause-only g c = grammars.only g.G.Grammar.tells g.G.Grammar.written g.G.Grammar.parsed g.G.Grammar.agree g.G.Grammar.tables g.G.Grammar.fits
+
+pub returns-clause-agrees : goal.returns-clause-agrees
+returns-clause-agrees g c = grammars.agrees g.G.Grammar.tells g.G.Grammar.written g.G.Grammar.parsed g.G.Grammar.agree g.G.Grammar.tables g.G.Grammar.fits
+
+pub returns-clause-begun : goal.returns-clause-begun
+returns-clause-begun g c = grammars.begun g.G.Grammar.tells g.G.Grammar.written g.G.Grammar.parsed g.G.Grammar.agree g.G.Grammar.tables g.G.Grammar.fits
+
+pub returns-clause-farther : goal.returns-clause-farther
+returns-clause-farther g c = grammars.farther g.G.Grammar.tells g.G.Grammar.written g.G.Grammar.parsed g.G.Grammar.agree g.G.Grammar.tables g.G.Grammar.fits
+
+pub returns-clause-parses_all : goal.returns-clause-parses_all
+returns-clause-parses_all g c = grammars.parses_all g.G.Grammar.tells g.G.Grammar.written g.G.Grammar.parsed g.G.Grammar.agree g.G.Grammar.tables g.G.Grammar.fits
