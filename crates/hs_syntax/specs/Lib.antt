@@ -1,2 +1,5 @@
 pub mod Spans
+pub mod Levels
+pub mod Texts
 pub mod Height
+pub mod WellFormed

@@ -13,9 +13,12 @@ use Rattle.hs_syntax.specs.declared.exp.Path.TheVariants as path
 use Rattle.hs_syntax.specs.declared.exp.Variable.{Variable}
 use Rattle.hs_syntax.specs.declared.exp.Variable.TheVariants as variable
 use Rattle.hs_syntax.specs.declared.exp.Exp.{Exp, out-Exp}
-use Rattle.hs_syntax.specs.declared.exp.Arg.TheOpen.{Exp-F, Postfix-F, Stmt-F}
+use Rattle.hs_syntax.specs.declared.exp.Arg.TheOpen.{Else-F, Exp-F, Postfix-F, Step-F, Stmt-F}
 use Rattle.hs_syntax.specs.declared.exp.Arg.TheOpen as exp
+use Rattle.hs_syntax.specs.declared.exp.Else.{Else, out-Else}
+use Rattle.hs_syntax.specs.declared.exp.If.{If, out-If}
 use Rattle.hs_syntax.specs.declared.exp.Postfix.{Postfix, out-Postfix}
+use Rattle.hs_syntax.specs.declared.exp.Step.{Step, out-Step}
 use Rattle.hs_syntax.specs.declared.exp.Block.{Block, out-Block}
 use Rattle.hs_syntax.specs.declared.exp.Stmt.{Stmt, out-Stmt}
 
@@ -60,7 +63,19 @@ span_of_variable (variable.Any s) = s
 unfoldable pub span_of_block : Block → Span
 span_of_block b = (out-Block b).span
 
-abbrev pub exp_span : {A E P S R O : Type 0} → Exp-F A E P S R Block O → Span
+-- of an `if`
+unfoldable pub span_of_if : If → Span
+span_of_if i = (out-If i).span
+
+abbrev pub else_span : {A L E P T S R O : Type 0} → Else-F A L E P T S R Block If O → Span
+else_span (exp.Chain i) = span_of_if i
+else_span (exp.Last b) = span_of_block b
+
+-- of what stands behind `else`
+unfoldable pub span_of_else : Else → Span
+span_of_else e = else_span (out-Else e)
+
+abbrev pub exp_span : {A L E P T S R O : Type 0} → Exp-F A L E P T S R Block If O → Span
 exp_span (exp.Int i) = i.span
 exp_span (exp.Bool s b) = s
 exp_span (exp.Unit s) = s
@@ -69,7 +84,7 @@ exp_span (exp.Tuple s es) = s
 exp_span (exp.Path p) = span_of_path p
 exp_span (exp.Call s p as') = s
 exp_span (exp.Block b) = span_of_block b
-exp_span (exp.If s c b o) = s
+exp_span (exp.If i) = span_of_if i
 exp_span (exp.Match s e as') = s
 exp_span (exp.Post s e ps) = s
 exp_span (exp.Prefix s o e) = s
@@ -80,17 +95,24 @@ exp_span (exp.Binary s e os) = s
 unfoldable pub span_of_exp : Exp → Span
 span_of_exp e = exp_span (out-Exp e)
 
-abbrev pub postfix_span : {A E P S R B O : Type 0} → Postfix-F A E P S R B O → Span
+abbrev pub step_span : {A L E P T S R B I O : Type 0} → Step-F A L E P T S R B I O → Span
+step_span (exp.Index s e) = s
+step_span (exp.Part s i) = s
+
+-- of a step
+unfoldable pub span_of_step : Step → Span
+span_of_step t = step_span (out-Step t)
+
+abbrev pub postfix_span : {A L E P S R B I O : Type 0} → Postfix-F A L E P Step S R B I O → Span
 postfix_span (exp.Try s) = s
 postfix_span (exp.Method s n as') = s
-postfix_span (exp.Index s e) = s
-postfix_span (exp.Part s i) = s
+postfix_span (exp.Step t) = span_of_step t
 
 -- of what stands behind an expression
 unfoldable pub span_of_postfix : Postfix → Span
 span_of_postfix p = postfix_span (out-Postfix p)
 
-abbrev pub stmt_span : {A P S R B O : Type 0} → Stmt-F A Exp P S R B O → Span
+abbrev pub stmt_span : {A L P T S R B I O : Type 0} → Stmt-F A L Exp P T S R B I O → Span
 stmt_span (exp.Let s p t e) = s
 stmt_span (exp.Assign s t ps o e) = s
 stmt_span (exp.For s x e f b) = s

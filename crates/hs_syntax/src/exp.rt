@@ -4,7 +4,8 @@
 //! names behind `as`. So a tree is no deeper than brackets, prefixes and blocks nest in the text.
 
 ghost use Rattle.std.specs.Prelude.{◌≡◌};
-ghost use Rattle.hs_syntax.specs.Spans.{span_of_path, span_of_exp, span_of_postfix, span_of_stmt, span_of_variable};
+ghost use Rattle.hs_syntax.specs.Spans.{span_of_path, span_of_if, span_of_else, span_of_exp, span_of_step, span_of_postfix, span_of_stmt, span_of_variable};
+ghost use Rattle.hs_syntax.specs.Levels.{level_of};
 
 use crate::pat::{ArmPat, Pat};
 use crate::span::{Int, Span};
@@ -63,6 +64,53 @@ pub enum BinaryOp {
     Remainder,
 }
 
+/// How strongly an operator binds its operands, from the strongest on.
+#[derive(Clone, Copy, Debug, PartialEq, Eq)]
+pub enum Level {
+    /// `*`, `/` and `%`.
+    Product,
+    /// `+` and `-`.
+    Sum,
+    /// `<<` and `>>`.
+    Shift,
+    /// `&`.
+    BitAnd,
+    /// `^`.
+    BitXor,
+    /// `|`.
+    BitOr,
+    /// `==`, `!=`, `<`, `<=`, `>` and `>=`.
+    Compare,
+    /// `&&`.
+    And,
+    /// `||`.
+    Or,
+}
+
+impl BinaryOp {
+    /// How strongly the operator binds.
+    pub fn level(self) -> Level
+        ensures { result ≡ level_of self }
+    {
+        match self {
+            BinaryOp::Or => Level::Or,
+            BinaryOp::And => Level::And,
+            BinaryOp::Equal
+            | BinaryOp::Differ
+            | BinaryOp::Less
+            | BinaryOp::AtMost
+            | BinaryOp::Greater
+            | BinaryOp::AtLeast => Level::Compare,
+            BinaryOp::BitOr => Level::BitOr,
+            BinaryOp::BitXor => Level::BitXor,
+            BinaryOp::BitAnd => Level::BitAnd,
+            BinaryOp::ShiftLeft | BinaryOp::ShiftRight => Level::Shift,
+            BinaryOp::Add | BinaryOp::Subtract => Level::Sum,
+            BinaryOp::Multiply | BinaryOp::Divide | BinaryOp::Remainder => Level::Product,
+        }
+    }
+}
+
 /// A path: what a name alone, or a name of a type, names.
 #[derive(Drop)]
 pub enum Path {
@@ -106,8 +154,8 @@ pub enum Exp {
     Call(Span, Path, Items<Arg>),
     /// `{ .. }`.
     Block(Boxed<Block>),
-    /// `if c { .. } else ..`: the condition, the first branch, and what stands behind `else`, an `if` or a block.
-    If(Span, Boxed<Exp>, Boxed<Block>, Option<Boxed<Exp>>),
+    /// `if c { .. } else ..`.
+    If(Boxed<If>),
     /// `match e { .. }`: what is looked at, and one arm or more.
     Match(Span, Boxed<Exp>, Items<Arm>),
     /// An expression, and one or more of `?`, calls of methods, indices and parts behind it, which group to the left.
@@ -119,6 +167,26 @@ pub enum Exp {
     /// `e + f - g`: an operand, and one operator of one binding strength or more, each with its right operand, which group
     /// to the left. A comparison has one operator.
     Binary(Span, Boxed<Exp>, Items<Operand>),
+}
+
+/// An `if`: its condition, its first branch, and what stands behind `else`.
+#[cycle(exp)]
+#[derive(Drop)]
+pub struct If {
+    pub span: Span,
+    pub condition: Exp,
+    pub then: Block,
+    pub otherwise: Option<Else>,
+}
+
+/// What stands behind `else`.
+#[cycle(exp)]
+#[derive(Drop)]
+pub enum Else {
+    /// `if c { .. }`, and what stands behind its own `else`: the chain goes on.
+    Chain(Boxed<If>),
+    /// `{ .. }`: the chain ends.
+    Last(Boxed<Block>),
 }
 
 /// An operator, and the operand on its right.
@@ -137,6 +205,14 @@ pub enum Postfix {
     Try(Span),
     /// `.m(a, b)`: a method's name, and what it is called with.
     Method(Span, Span, Items<Arg>),
+    /// `[i]` or `.0`.
+    Step(Step),
+}
+
+/// A step into a value: to an item or to a part.
+#[cycle(exp)]
+#[derive(Drop)]
+pub enum Step {
     /// `[i]`.
     Index(Span, Exp),
     /// `.0`: an integer with decimal digits alone.
@@ -182,9 +258,8 @@ pub struct Block {
 pub enum Stmt {
     /// `let p: T = e;`.
     Let(Span, Pat, Option<Ty>, Exp),
-    /// `*x[i].0 += e;`: what is assigned, the steps behind its name, each an index or a part, the operator of a compound
-    /// assignment, and the right side.
-    Assign(Span, Target, Items<Postfix>, Option<BinaryOp>, Exp),
+    /// `*x[i].0 += e;`: what is assigned, the steps behind its name, the operator of a compound assignment, and the right side.
+    Assign(Span, Target, Items<Step>, Option<BinaryOp>, Exp),
     /// `for i in e..f { .. }`: the variable, the two bounds, and the body.
     For(Span, Variable, Exp, Exp, Block),
     /// `return e;`.
@@ -226,7 +301,7 @@ impl Variable {
 
 impl Exp {
     /// The bytes that the expression stands for.
-    #[tactic(auto, unfolding(crate::specs::Spans::span_of_exp, crate::specs::Spans::span_of_block))]
+    #[tactic(auto, unfolding(crate::specs::Spans::span_of_exp, crate::specs::Spans::span_of_block, crate::specs::Spans::span_of_if))]
     pub fn span(&self) -> Span
         ensures { result ≡ span_of_exp self.now }
     {
@@ -234,12 +309,12 @@ impl Exp {
             Exp::Int(int) => int.span,
             Exp::Path(path) => path.span(),
             Exp::Block(block) => block.get().span,
+            Exp::If(branches) => branches.get().span,
             Exp::Bool(span, _)
             | Exp::Unit(span)
             | Exp::Group(span, _)
             | Exp::Tuple(span, _)
             | Exp::Call(span, _, _)
-            | Exp::If(span, _, _, _)
             | Exp::Match(span, _, _)
             | Exp::Post(span, _, _)
             | Exp::Prefix(span, _, _)
@@ -249,17 +324,40 @@ impl Exp {
     }
 }
 
-impl Postfix {
+impl Else {
+    /// The bytes that stand behind `else`.
+    #[tactic(auto, unfolding(crate::specs::Spans::span_of_else, crate::specs::Spans::span_of_block, crate::specs::Spans::span_of_if))]
+    pub fn span(&self) -> Span
+        ensures { result ≡ span_of_else self.now }
+    {
+        match self {
+            Else::Chain(branches) => branches.get().span,
+            Else::Last(block) => block.get().span,
+        }
+    }
+}
+
+impl Step {
     /// The bytes that the step stands for, without what stands before it.
+    #[tactic(auto, unfolding(crate::specs::Spans::span_of_step))]
+    pub fn span(&self) -> Span
+        ensures { result ≡ span_of_step self.now }
+    {
+        match self {
+            Step::Index(span, _) | Step::Part(span, _) => *span,
+        }
+    }
+}
+
+impl Postfix {
+    /// The bytes that this stands for, without what stands before it.
     #[tactic(auto, unfolding(crate::specs::Spans::span_of_postfix))]
     pub fn span(&self) -> Span
         ensures { result ≡ span_of_postfix self.now }
     {
         match self {
-            Postfix::Try(span)
-            | Postfix::Method(span, _, _)
-            | Postfix::Index(span, _)
-            | Postfix::Part(span, _) => *span,
+            Postfix::Try(span) | Postfix::Method(span, _, _) => *span,
+            Postfix::Step(step) => step.span(),
         }
     }
 }

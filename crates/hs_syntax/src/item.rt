@@ -1,15 +1,9 @@
-//! Items, and the file of them.
+//! Items.
 
 use crate::exp::{Block, Exp};
 use crate::span::{Int, Span};
 use crate::ty::Ty;
 use sqlite_items::Items;
-
-/// A file: its items in order.
-#[derive(Drop)]
-pub struct File {
-    pub items: Items<Item>,
-}
 
 /// An item: the bytes that it stands for, the names of its derive list, none where it has no such list, and what it
 /// declares. Whether `pub` stands before it is not kept.

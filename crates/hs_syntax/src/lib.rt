@@ -2,6 +2,7 @@
 #![tactic(auto)]
 
 mod exp;
+mod file;
 mod item;
 mod measure;
 mod pat;
@@ -11,9 +12,11 @@ mod tests;
 mod ty;
 
 pub use exp::{
-    Arg, Arm, BinaryOp, Block, Exp, Operand, Path, Postfix, PrefixOp, Stmt, Target, Variable,
+    Arg, Arm, BinaryOp, Block, Else, Exp, If, Level, Operand, Path, Postfix, PrefixOp, Step, Stmt,
+    Target, Variable,
 };
-pub use item::{Ctor, File, Item, ItemKind, Mode, Param};
+pub use file::{File, Text};
+pub use item::{Ctor, Item, ItemKind, Mode, Param};
 pub use measure::{height, height_of_block, height_of_stmt};
 pub use pat::{ArmPat, Pat};
 pub use span::{Int, Span};

@@ -10,9 +10,9 @@
 //! left is walked in a loop.
 
 ghost use Rattle.std.specs.Prelude.{◌≡◌, ℕ, ◌+◌, suc, map, option_map};
-ghost use Rattle.hs_syntax.specs.Height.{height_of, arg_height, postfix_height, stmt_height, arm_height, block_height, operand_height, greatest, chained, or_none, capped};
+ghost use Rattle.hs_syntax.specs.Height.{height_of, arg_height, else_height, if_height, step_height, postfix_height, stmt_height, arm_height, block_height, operand_height, greatest, chained, or_none, capped};
 
-use crate::exp::{Arg, Arm, Block, Exp, Operand, Postfix, Stmt};
+use crate::exp::{Arg, Arm, Block, Else, Exp, If, Operand, Postfix, Step, Stmt};
 use sqlite_items::{Boxed, Items};
 
 /// One more than a height, as far as 32 bits hold it.
@@ -45,14 +45,32 @@ pub fn height(exp: &Exp) -> u32
         Exp::Tuple(_, parts) => one_more(highest_exp(parts)),
         Exp::Call(_, _, args) => one_more(highest_arg(args)),
         Exp::Block(block) => height_of_block(block.get()),
-        Exp::If(_, condition, then, otherwise) => {
-            let branches = height_of_block(then.get()).max(height_of_optional(otherwise));
-            one_more(height(condition.get()).max(branches))
-        }
+        Exp::If(branches) => height_of_if(branches.get()),
         Exp::Match(_, scrutinee, arms) => one_more(height(scrutinee.get()).max(highest_arm(arms))),
         Exp::Post(_, first, steps) => height_behind(steps, height(first.get())),
         Exp::Cast(_, inner, names) => with_names(height(inner.get()), names.len()),
         Exp::Binary(_, first, operands) => height_with(operands, height(first.get())),
+    }
+}
+
+/// The height of an `if`.
+#[cycle(height)]
+fn height_of_if(branches: &If) -> u32
+    ensures { result ≡ capped (if_height branches.now) }
+{
+    let both = height_of_block(&branches.then).max(height_of_else(&branches.otherwise));
+    one_more(height(&branches.condition).max(both))
+}
+
+/// The height of what stands behind `else`, 0 where nothing does.
+#[cycle(height)]
+fn height_of_else(otherwise: &Option<Else>) -> u32
+    ensures { result ≡ capped (or_none (option_map else_height otherwise.now)) }
+{
+    match otherwise {
+        None => 0,
+        Some(Else::Chain(branches)) => height_of_if(branches.get()),
+        Some(Else::Last(block)) => height_of_block(block.get()),
     }
 }
 
@@ -115,26 +133,37 @@ fn highest_arm(arms: &Items<Arm>) -> u32
     highest
 }
 
-/// The height of what a step has in it, 0 where it has nothing.
+/// The height of what stands in a method's call or a step, 0 where nothing does.
 #[cycle(height)]
 fn height_of_postfix(step: &Postfix) -> u32
     ensures { result ≡ capped (postfix_height step.now) }
 {
     match step {
-        Postfix::Try(_) | Postfix::Part(_, _) => 0,
+        Postfix::Try(_) => 0,
         Postfix::Method(_, _, args) => highest_arg(args),
-        Postfix::Index(_, exp) => height(exp),
+        Postfix::Step(step) => height_of_step(step),
     }
 }
 
-/// The greatest height of what these steps have in them, 0 where they have nothing.
+/// The height of the index of a step, 0 where it has none.
 #[cycle(height)]
-fn highest_postfix(steps: &Items<Postfix>) -> u32
-    ensures { result ≡ capped (greatest (map postfix_height steps.now)) }
+fn height_of_step(step: &Step) -> u32
+    ensures { result ≡ capped (step_height step.now) }
+{
+    match step {
+        Step::Index(_, exp) => height(exp),
+        Step::Part(_, _) => 0,
+    }
+}
+
+/// The greatest height of the indices of these steps, 0 where they have none.
+#[cycle(height)]
+fn highest_step(steps: &Items<Step>) -> u32
+    ensures { result ≡ capped (greatest (map step_height steps.now)) }
 {
     let mut highest = 0;
     for step in steps.as_slice() {
-        highest = height_of_postfix(step).max(highest);
+        highest = height_of_step(step).max(highest);
     }
     highest
 }
@@ -190,7 +219,7 @@ pub fn height_of_stmt(stmt: &Stmt) -> u32
 {
     match stmt {
         Stmt::Let(_, _, _, exp) | Stmt::Bare(exp) | Stmt::Exp(_, exp) => one_more(height(exp)),
-        Stmt::Assign(_, _, steps, _, exp) => one_more(highest_postfix(steps).max(height(exp))),
+        Stmt::Assign(_, _, steps, _, exp) => one_more(highest_step(steps).max(height(exp))),
         Stmt::For(_, _, low, high, body) => {
             one_more(height(low).max(height(high)).max(height_of_block(body)))
         }

@@ -1,7 +1,11 @@
 //! Heights of trees that are made by hand.
 
-use crate::{Arg, Block, Exp, Int, Path, Postfix, PrefixOp, Span, Stmt, height, height_of_block};
+use crate::{
+    Arg, Block, Exp, Int, Path, Postfix, PrefixOp, Span, Step, Stmt, Text, height, height_of_block,
+};
 use hs_base::memory::NoMemory;
+use hs_base::place::{Broken, Pos};
+use hs_base::rule::Rule;
 use sqlite_items::{Boxed, Items};
 use std::alloc::Global;
 
@@ -38,7 +42,7 @@ fn call(alloc: Global) -> Result<Exp, NoMemory> {
 fn item_of_call(alloc: Global) -> Result<Exp, NoMemory> {
     let mut steps = Items::new(alloc);
     steps.push(Postfix::Try(span(13, 14)))?;
-    steps.push(Postfix::Index(span(14, 17), int(span(15, 16), 1)))?;
+    steps.push(Postfix::Step(Step::Index(span(14, 17), int(span(15, 16), 1))))?;
     Ok(Exp::Post(span(0, 17), Boxed::new(alloc, call(alloc)?)?, steps))
 }
 
@@ -61,5 +65,27 @@ fn heights_count_nodes(rt: HostRuntime) -> Result<(), NoMemory> {
     assert_eq!(rt; height(&call(alloc)?), 3);
     assert_eq!(rt; height(&item_of_call(alloc)?), 5);
     assert_eq!(rt; height_of_block(&block(alloc)?), 7);
+    Ok(())
+}
+
+#[test]
+fn a_text_has_the_bytes_of_its_spans(rt: HostRuntime) -> Result<(), NoMemory> {
+    let text = Text::of(rt.alloc(), b"fn f() { }")?;
+    assert_eq!(rt; text.at(span(3, 4)), b"f".as_slice());
+    assert_eq!(rt; text.at(span(7, 90)), b"{ }".as_slice());
+    Ok(())
+}
+
+#[test]
+fn a_span_is_told_at_its_first_byte(rt: HostRuntime) -> Result<(), NoMemory> {
+    let text = Text::of(rt.alloc(), b"fn f() {\n  g }")?;
+    let at = Pos {
+        byte: 11,
+        line: 2,
+        col: 3,
+    };
+    assert_eq!(rt; text.pos(span(11, 12)), at);
+    let rule = Rule::N2;
+    assert_eq!(rt; text.told(rule, span(11, 12)), Broken { rule, at });
     Ok(())
 }

@@ -1,6 +1,6 @@
 use Rattle.std.proofs.Common.{◌≡◌, suc, ap, ◌∙◌, arith, rules}
 use Rattle.hs_syntax.specs.declared.exp.Arg.{the_lemmas}
-use Rattle.hs_syntax.specs.Height.{height_of, arg_height, postfix_height, stmt_height, arm_height, operand_height, capped}
+use Rattle.hs_syntax.specs.Height.{height_of, arg_height, postfix_height, step_height, stmt_height, arm_height, operand_height, capped}
 use Rattle.hs_syntax.proofs.Capped.{greatest_more, chained_more}
 use Rattle.hs_syntax.proofs.measure.+height.Goals as goal
 
@@ -12,9 +12,17 @@ pub height-returns-in-Call : goal.height-returns-in-Call
 unfolding capped
 height-returns-in-Call t c = grind (arith, the_lemmas)
 
-pub height-returns-in-If : goal.height-returns-in-If
+pub height_of_if-returns : goal.height_of_if-returns
 unfolding capped
-height-returns-in-If t c = grind (arith, the_lemmas)
+height_of_if-returns t c = grind (arith, the_lemmas)
+
+pub height_of_else-returns-in-None : goal.height_of_else-returns-in-None
+unfolding capped
+height_of_else-returns-in-None t c = grind (arith, the_lemmas)
+
+pub height_of_step-returns-in-Part : goal.height_of_step-returns-in-Part
+unfolding capped
+height_of_step-returns-in-Part t c = grind (arith, the_lemmas)
 
 pub height-returns-in-Match : goal.height-returns-in-Match
 unfolding capped
@@ -56,10 +64,6 @@ pub height_of_postfix-returns-in-Try : goal.height_of_postfix-returns-in-Try
 unfolding capped
 height_of_postfix-returns-in-Try t c = grind (arith, the_lemmas)
 
-pub height_of_postfix-returns-in-Try-2 : goal.height_of_postfix-returns-in-Try-2
-unfolding capped
-height_of_postfix-returns-in-Try-2 t c = grind (arith, the_lemmas)
-
 pub height_of_stmt-returns-in-Assign : goal.height_of_stmt-returns-in-Assign
 unfolding capped
 height_of_stmt-returns-in-Assign t c = grind (arith, the_lemmas)
@@ -96,9 +100,9 @@ pub highest_exp-loop-exp-init : goal.highest_exp-loop-exp-init
 unfolding capped
 highest_exp-loop-exp-init t c = grind (arith, the_lemmas)
 
-pub highest_postfix-loop-step-init : goal.highest_postfix-loop-step-init
+pub highest_step-loop-step-init : goal.highest_step-loop-step-init
 unfolding capped
-highest_postfix-loop-step-init t c = grind (arith, the_lemmas)
+highest_step-loop-step-init t c = grind (arith, the_lemmas)
 
 pub highest_stmt-loop-stmt-init : goal.highest_stmt-loop-stmt-init
 unfolding capped
@@ -116,9 +120,9 @@ pub highest_arm-loop-arm-preserved : goal.highest_arm-loop-arm-preserved
 highest_arm-loop-arm-preserved t c =
     c.max-highest.ensures ∙ greatest_more arm_height c.as_slice-arm-items.result.now c.loop-arm.arm-index c.arm-item.result (omega arith) c.loop-arm.highest c.height.result c.loop-arm.invariant (let k : c.height.result ≡ capped (arm_height c.arm-item.result) = search (rules, the_lemmas) in k ∙ ap (λ x. capped (arm_height x)) c.arm-item.is)
 
-pub highest_postfix-loop-step-preserved : goal.highest_postfix-loop-step-preserved
-highest_postfix-loop-step-preserved t c =
-    c.max-highest.ensures ∙ greatest_more postfix_height c.as_slice-step-items.result.now c.loop-step.step-index c.step-item.result (omega arith) c.loop-step.highest c.height_of_postfix.result c.loop-step.invariant (c.height_of_postfix.ensures ∙ ap (λ x. capped (postfix_height x)) c.step-item.is)
+pub highest_step-loop-step-preserved : goal.highest_step-loop-step-preserved
+highest_step-loop-step-preserved t c =
+    c.max-highest.ensures ∙ greatest_more step_height c.as_slice-step-items.result.now c.loop-step.step-index c.step-item.result (omega arith) c.loop-step.highest c.height_of_step.result c.loop-step.invariant (c.height_of_step.ensures ∙ ap (λ x. capped (step_height x)) c.step-item.is)
 
 pub highest_stmt-loop-stmt-preserved : goal.highest_stmt-loop-stmt-preserved
 highest_stmt-loop-stmt-preserved t c =

@@ -1,5 +1,5 @@
 use Rattle.std.proofs.Common.{◌≡◌, ℕ, map, take}
-use Rattle.hs_syntax.specs.Height.{height_of, arg_height, postfix_height, stmt_height, arm_height, operand_height, greatest, chained, capped}
+use Rattle.hs_syntax.specs.Height.{height_of, arg_height, postfix_height, step_height, stmt_height, arm_height, operand_height, greatest, chained, capped}
 use Rattle.hs_syntax.proofs.measure.+height.Given as goal
 
 abbrev pub invariant-height_behind-loop-step : goal.invariant-height_behind-loop-step
@@ -17,8 +17,8 @@ invariant-highest_arm-loop-arm l = l.highest ≡ capped (greatest (map arm_heigh
 abbrev pub invariant-highest_exp-loop-exp : goal.invariant-highest_exp-loop-exp
 invariant-highest_exp-loop-exp l = l.highest ≡ capped (greatest (map height_of (take l.exp-index l.exp-items)))
 
-abbrev pub invariant-highest_postfix-loop-step : goal.invariant-highest_postfix-loop-step
-invariant-highest_postfix-loop-step l = l.highest ≡ capped (greatest (map postfix_height (take l.step-index l.step-items)))
+abbrev pub invariant-highest_step-loop-step : goal.invariant-highest_step-loop-step
+invariant-highest_step-loop-step l = l.highest ≡ capped (greatest (map step_height (take l.step-index l.step-items)))
 
 abbrev pub invariant-highest_stmt-loop-stmt : goal.invariant-highest_stmt-loop-stmt
 invariant-highest_stmt-loop-stmt l = l.highest ≡ capped (greatest (map stmt_height (take l.stmt-index l.stmt-items)))
