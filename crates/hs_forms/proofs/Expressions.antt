@@ -12,12 +12,14 @@ use Rattle.hs_syntax.specs.declared.exp.Arg.TheVariants as arg
 use Rattle.hs_syntax.specs.declared.exp.Arm.{Arm}
 use Rattle.hs_syntax.specs.declared.exp.Postfix.{Postfix}
 use Rattle.hs_syntax.specs.declared.exp.Postfix.TheVariants as postfix
+use Rattle.hs_syntax.specs.declared.exp.Level.{Level}
+use Rattle.hs_syntax.specs.declared.exp.Level.TheVariants as level
 use Rattle.hs_syntax.specs.declared.exp.BinaryOp.{BinaryOp}
 use Rattle.hs_syntax.specs.Spans.{span_of_exp}
 use Rattle.hs_forms.specs.declared.token.Kind.TheVariants as k
 use Rattle.hs_forms.specs.Lexis.{lexis}
 use Rattle.hs_forms.specs.Nodes.{across, group_of, tuple_of, arm_of, all_arms}
-use Rattle.hs_forms.specs.Grammar.{rules, F, at, name, comma, expression, block, lent, lent_arg, list_arg, arg_form, args_rest, args, path_form, call_form, behind_first, grouped_rest, grouped, if_form, block_value, exp_value, arm_form, arm_pattern, behind_ctor, member_pattern, patterns, next_arms, arms_of, arms, match_form, alone, prim, method, behind_dot, index, postfix_form, step_form, post, unary, cast, operator, operand, operands, level}
+use Rattle.hs_forms.specs.Grammar.{rules, F, at, name, comma, expression, block, lent, lent_arg, list_arg, arg_form, args_rest, args, path_form, call_form, behind_first, grouped_rest, grouped, if_form, block_value, exp_value, arm_form, arm_pattern, behind_ctor, member_pattern, patterns, next_arms, arms_of, arms, match_form, alone, prim, method, behind_dot, index, postfix_form, step_form, post, unary, cast, operator, operand, operands, levels, binary}
 use Rattle.hs_forms.specs.Written.{or_empty, written_path, written_arg, written_args, written_arm, last_arm, written_arms, written_match, written_alone, written_grouped, written_call, written_prim, written_postfix, written_post, written_unary, written_cast, chain_of, written_product, written_sum, written_shift, written_bit_and, written_bit_xor, written_bit_or, written_comparison, written_and, written_exp}
 use Rattle.hs_forms.proofs.Factor.{same_by}
 use Rattle.hs_forms.proofs.Flags.{flagged, parted, split_flag, loop_flag, ended_same}
@@ -44,7 +46,7 @@ grouped_with es =
 postfix_with : F (List Arg × Span) → F Postfix
 postfix_with as' =
     Alt (Map postfix.Try (at k.Question))
-    (Alt (Seq (λ s (r : Span × (List Arg × Span)). postfix.Method (across s r.1.1) r.0 r.1.0) (at k.Dot) (name & as')) step_form)
+    (Alt (Seq (λ s (r : Span × (List Arg × Span)). postfix.Method (across s r.1.1) r.0 r.1.0) (at k.Dot) (name & as')) (Map postfix.Step step_form))
 
 -- an arm with a comma or a block, by its pattern's form
 arm_with : F Arm
@@ -61,6 +63,31 @@ arms_parted =
 arms_ended : F (List Arm)
 arms_ended =
     Alt (Seq all_arms arm_with (Seq (λ as' last. (as', last)) (star arm_with) (optional last_with))) (Map (λ a. a ∷ []) last_with)
+
+-- the levels from one on to the strongest
+abbrev products : List Level
+products = level.Product ∷ []
+
+abbrev sums : List Level
+sums = level.Sum ∷ products
+
+abbrev shifts : List Level
+shifts = level.Shift ∷ sums
+
+abbrev bit_ands : List Level
+bit_ands = level.BitAnd ∷ shifts
+
+abbrev bit_xors : List Level
+bit_xors = level.BitXor ∷ bit_ands
+
+abbrev bit_ors : List Level
+bit_ors = level.BitOr ∷ bit_xors
+
+abbrev comparisons : List Level
+comparisons = level.Compare ∷ bit_ors
+
+abbrev ands : List Level
+ands = level.And ∷ comparisons
 
 module _ (ρ : Derivings lexis rules) (β : Beginnings lexis rules) (sane : Sane lexis rules ρ β) where
   arg_inside : Same ρ β written_arg (arg_with (list_read comma expression))
@@ -165,7 +192,7 @@ module _ (ρ : Derivings lexis rules) (β : Beginnings lexis rules) (sane : Sane
     unfolding written_prim prim alone
     prim_same =
         alt ρ β (keep ρ β) (alt ρ β grouped_same (alt ρ β call_same
-        (by ρ β (Alt if_form (Alt written_match (Map exp.Block block))) (turned ρ β) (alt ρ β (keep ρ β) (alt ρ β match_same (keep ρ β))))))
+        (by ρ β (Alt (Map exp.If if_form) (Alt written_match (Map exp.Block block))) (turned ρ β) (alt ρ β (keep ρ β) (alt ρ β match_same (keep ρ β))))))
 
     post_same : Same ρ β written_post post
     unfolding written_post post
@@ -183,38 +210,38 @@ module _ (ρ : Derivings lexis rules) (β : Beginnings lexis rules) (sane : Sane
     chain_same : (o : F BinaryOp) (f g : F Exp) → Same ρ β f g → Same ρ β (chain_of o f) (chain_of o g)
     chain_same o f g s = seq ρ β s (stars ρ β (seq ρ β (keep ρ β) s))
 
-    product_same : Same ρ β written_product (level 1)
-    unfolding written_product level operands operand
-    product_same = chain_same (operator 0) written_cast cast cast_same
+    product_same : Same ρ β written_product (binary products)
+    unfolding written_product binary operands operand
+    product_same = chain_same (operator level.Product) written_cast cast cast_same
 
-    sum_same : Same ρ β written_sum (level 2)
-    unfolding written_sum level operands operand
-    sum_same = chain_same (operator 1) written_product (level 1) product_same
+    sum_same : Same ρ β written_sum (binary sums)
+    unfolding written_sum binary operands operand
+    sum_same = chain_same (operator level.Sum) written_product (binary products) product_same
 
-    shift_same : Same ρ β written_shift (level 3)
-    unfolding written_shift level operands operand
-    shift_same = chain_same (operator 2) written_sum (level 2) sum_same
+    shift_same : Same ρ β written_shift (binary shifts)
+    unfolding written_shift binary operands operand
+    shift_same = chain_same (operator level.Shift) written_sum (binary sums) sum_same
 
-    bit_and_same : Same ρ β written_bit_and (level 4)
-    unfolding written_bit_and level operands operand
-    bit_and_same = chain_same (operator 3) written_shift (level 3) shift_same
+    bit_and_same : Same ρ β written_bit_and (binary bit_ands)
+    unfolding written_bit_and binary operands operand
+    bit_and_same = chain_same (operator level.BitAnd) written_shift (binary shifts) shift_same
 
-    bit_xor_same : Same ρ β written_bit_xor (level 5)
-    unfolding written_bit_xor level operands operand
-    bit_xor_same = chain_same (operator 4) written_bit_and (level 4) bit_and_same
+    bit_xor_same : Same ρ β written_bit_xor (binary bit_xors)
+    unfolding written_bit_xor binary operands operand
+    bit_xor_same = chain_same (operator level.BitXor) written_bit_and (binary bit_ands) bit_and_same
 
-    bit_or_same : Same ρ β written_bit_or (level 6)
-    unfolding written_bit_or level operands operand
-    bit_or_same = chain_same (operator 5) written_bit_xor (level 5) bit_xor_same
+    bit_or_same : Same ρ β written_bit_or (binary bit_ors)
+    unfolding written_bit_or binary operands operand
+    bit_or_same = chain_same (operator level.BitOr) written_bit_xor (binary bit_xors) bit_xor_same
 
-    comparison_same : Same ρ β written_comparison (level 7)
-    unfolding written_comparison level operands operand
+    comparison_same : Same ρ β written_comparison (binary comparisons)
+    unfolding written_comparison binary operands operand
     comparison_same = seq ρ β bit_or_same (along ρ β (maybe ρ β (seq ρ β (keep ρ β) bit_or_same)))
 
-    and_same : Same ρ β written_and (level 8)
-    unfolding written_and level operands operand
-    and_same = chain_same (operator 7) written_comparison (level 7) comparison_same
+    and_same : Same ρ β written_and (binary ands)
+    unfolding written_and binary operands operand
+    and_same = chain_same (operator level.And) written_comparison (binary comparisons) comparison_same
 
-    pub exp_same : Same ρ β written_exp (level 9)
-    unfolding written_exp level operands operand
-    exp_same = chain_same (operator 8) written_and (level 8) and_same
+    pub exp_same : Same ρ β written_exp (binary levels)
+    unfolding written_exp binary operands operand
+    exp_same = chain_same (operator level.Or) written_and (binary ands) and_same

@@ -90,4 +90,4 @@ module _ (ρ : Derivings lexis rules) (β : Beginnings lexis rules) (sane : Sane
 
   pub file_same : Same ρ β written_file file_form
   unfolding written_file file_form
-  file_same = along ρ β (stars ρ β item_same)
+  file_same = stars ρ β item_same

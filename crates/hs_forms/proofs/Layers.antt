@@ -1,11 +1,14 @@
 -- The layer of an expression that a variant makes.
-use Rattle.std.proofs.Common.{◌≡◌, Bool, List, Option, rules}
+use Rattle.std.proofs.Common.{◌≡◌, Bool, List, rules}
 use Rattle.hs_syntax.specs.declared.span.Span.{Span}
 use Rattle.hs_syntax.specs.declared.span.Int.{Int}
 use Rattle.hs_syntax.specs.declared.exp.Path.{Path}
 use Rattle.hs_syntax.specs.declared.exp.PrefixOp.{PrefixOp}
 use Rattle.hs_syntax.specs.declared.exp.Exp.{Exp, out-Exp, the_lemmas}
 use Rattle.hs_syntax.specs.declared.exp.Exp.TheVariants as exp
+use Rattle.hs_syntax.specs.declared.exp.Else.{Else}
+use Rattle.hs_syntax.specs.declared.exp.If.{If}
+use Rattle.hs_syntax.specs.declared.exp.Step.{Step}
 use Rattle.hs_syntax.specs.declared.exp.Postfix.{Postfix, out-Postfix}
 use Rattle.hs_syntax.specs.declared.exp.Postfix.TheVariants as postfix
 use Rattle.hs_syntax.specs.declared.exp.Arg.{Arg}
@@ -17,10 +20,10 @@ use Rattle.hs_syntax.specs.declared.exp.Arg.TheOpen.{Exp-F, Postfix-F}
 use Rattle.hs_syntax.specs.declared.exp.Arg.TheOpen as layer
 
 abbrev pub Layer : Type 0
-Layer = Exp-F Arg Exp Postfix Stmt Arm Block Operand
+Layer = Exp-F Arg Else Exp Postfix Step Stmt Arm Block If Operand
 
-abbrev pub StepLayer : Type 0
-StepLayer = Postfix-F Arg Exp Postfix Stmt Arm Block Operand
+abbrev pub PostfixLayer : Type 0
+PostfixLayer = Postfix-F Arg Else Exp Postfix Step Stmt Arm Block If Operand
 
 pub out_int : (i : Int) → ◌≡◌ {A = Layer} (out-Exp (exp.Int i)) (layer.Int i)
 out_int i = search (rules, the_lemmas)
@@ -46,8 +49,8 @@ out_call s p as' = search (rules, the_lemmas)
 pub out_block : (b : Block) → ◌≡◌ {A = Layer} (out-Exp (exp.Block b)) (layer.Block b)
 out_block b = search (rules, the_lemmas)
 
-pub out_if : (s : Span) (c : Exp) (b : Block) (o : Option Exp) → ◌≡◌ {A = Layer} (out-Exp (exp.If s c b o)) (layer.If s c b o)
-out_if s c b o = search (rules, the_lemmas)
+pub out_if : (i : If) → ◌≡◌ {A = Layer} (out-Exp (exp.If i)) (layer.If i)
+out_if i = search (rules, the_lemmas)
 
 pub out_match : (s : Span) (e : Exp) (as' : List Arm) → ◌≡◌ {A = Layer} (out-Exp (exp.Match s e as')) (layer.Match s e as')
 out_match s e as' = search (rules, the_lemmas)
@@ -64,14 +67,11 @@ out_cast s e ns = search (rules, the_lemmas)
 pub out_binary : (s : Span) (e : Exp) (os : List Operand) → ◌≡◌ {A = Layer} (out-Exp (exp.Binary s e os)) (layer.Binary s e os)
 out_binary s e os = search (rules, the_lemmas)
 
-pub out_try : (s : Span) → ◌≡◌ {A = StepLayer} (out-Postfix (postfix.Try s)) (layer.Try s)
+pub out_try : (s : Span) → ◌≡◌ {A = PostfixLayer} (out-Postfix (postfix.Try s)) (layer.Try s)
 out_try s = search (rules, the_lemmas)
 
-pub out_method : (s n : Span) (as' : List Arg) → ◌≡◌ {A = StepLayer} (out-Postfix (postfix.Method s n as')) (layer.Method s n as')
+pub out_method : (s n : Span) (as' : List Arg) → ◌≡◌ {A = PostfixLayer} (out-Postfix (postfix.Method s n as')) (layer.Method s n as')
 out_method s n as' = search (rules, the_lemmas)
 
-pub out_index : (s : Span) (e : Exp) → ◌≡◌ {A = StepLayer} (out-Postfix (postfix.Index s e)) (layer.Index s e)
-out_index s e = search (rules, the_lemmas)
-
-pub out_part : (s : Span) (i : Int) → ◌≡◌ {A = StepLayer} (out-Postfix (postfix.Part s i)) (layer.Part s i)
-out_part s i = search (rules, the_lemmas)
+pub out_step : (t : Step) → ◌≡◌ {A = PostfixLayer} (out-Postfix (postfix.Step t)) (layer.Step t)
+out_step t = search (rules, the_lemmas)

@@ -1,7 +1,5 @@
 -- An expression that is a place.
-use Rattle.std.proofs.Common.{◌≡◌, Bool, true, false, List, [], ◌∷◌, ◌++◌, Option, Some, None, ◌⊎◌, inl, inr, refl, sym, ap, ◌∙◌, subst, append-nil}
-use Rattle.std.specs.List.{list_all}
-use Rattle.std.proofs.lemmas.Bool.{both_ways, and_parts, and_from}
+use Rattle.std.proofs.Common.{◌≡◌, Bool, true, false, List, [], ◌∷◌, ◌++◌, map, Option, Some, None, ◌⊎◌, inl, inr, refl, sym, ap, ◌∙◌, subst, append-nil}
 use Rattle.hs_grammar.specs.Derives.{Derivings, Beginnings, Turns, Derives, Begun}
 use Rattle.hs_grammar.specs.Words.{item, star}
 use Rattle.hs_syntax.specs.declared.span.Span.{Span}
@@ -13,19 +11,22 @@ use Rattle.hs_syntax.specs.declared.exp.Exp.{Exp, out-Exp}
 use Rattle.hs_syntax.specs.declared.exp.Exp.TheVariants as exp
 use Rattle.hs_syntax.specs.declared.exp.Postfix.{Postfix}
 use Rattle.hs_syntax.specs.declared.exp.Postfix.TheVariants as postfix
+use Rattle.hs_syntax.specs.declared.exp.Step.{Step}
+use Rattle.hs_syntax.specs.declared.exp.Step.TheVariants as step
+use Rattle.hs_syntax.specs.declared.exp.If.{If}
 use Rattle.hs_syntax.specs.declared.exp.Arg.{Arg}
 use Rattle.hs_syntax.specs.declared.exp.Arm.{Arm}
 use Rattle.hs_syntax.specs.declared.exp.Block.{Block}
 use Rattle.hs_syntax.specs.declared.exp.Operand.{Operand}
 use Rattle.hs_syntax.specs.declared.exp.Arg.TheOpen as layer
-use Rattle.hs_syntax.specs.Spans.{exp_span, span_of_exp, span_of_path, span_of_postfix}
+use Rattle.hs_syntax.specs.Spans.{exp_span, span_of_exp, span_of_path, postfix_span, span_of_postfix, span_of_step}
 use Rattle.hs_forms.specs.declared.token.Token.{Token}
 use Rattle.hs_forms.specs.Lexis.{lexis}
-use Rattle.hs_forms.specs.Nodes.{across, last_of, call_of, if_of, post_of}
-use Rattle.hs_forms.specs.Blocks.{is_step_layer, is_step, name_layer, name_in, stepped, steps_layer, steps_in, target_of, place_layer, place_in}
-use Rattle.hs_forms.specs.Grammar.{rules, name, path_of_type, behind_separator, named_path, path_form, call_form, behind_first, grouped_rest, grouped, if_form, match_form, literal, alone, prim, method, behind_dot, index, postfix_form, post, step_form, place_form, steps_end, plain_target}
+use Rattle.hs_forms.specs.Nodes.{across, last_of, call_of, post_of}
+use Rattle.hs_forms.specs.Blocks.{step_layer, step_in, and_steps, all_steps, name_layer, name_in, stepped, steps_layer, steps_in, target_of, place_layer, place_in}
+use Rattle.hs_forms.specs.Grammar.{rules, name, path_of_type, behind_separator, named_path, path_form, call_form, behind_first, grouped_rest, grouped, if_form, match_form, literal, alone, prim, method, behind_dot, postfix_form, post, step_form, place_form, steps_end, plain_target}
 use Rattle.hs_forms.proofs.Flags.{one_turn, no_last}
-use Rattle.hs_forms.proofs.Layers.{Layer, out_int, out_bool, out_unit, out_group, out_tuple, out_path, out_call, out_block, out_if, out_match, out_post, out_cast, out_binary, out_try, out_method, out_index, out_part}
+use Rattle.hs_forms.proofs.Layers.{Layer, out_int, out_bool, out_unit, out_group, out_tuple, out_path, out_call, out_block, out_if, out_match, out_post, out_cast, out_binary, out_try, out_method, out_step}
 
 -- the expression is no place, nor the front of one
 abbrev pub NoPlace : Exp → Type 0
@@ -62,8 +63,8 @@ no_call s p as' = no_place (exp.Call s p as') (layer.Call s p as') (out_call s p
 no_block : (b : Block) → NoPlace (exp.Block b)
 no_block b = no_place (exp.Block b) (layer.Block b) (out_block b) refl refl refl
 
-no_if : (s : Span) (c : Exp) (b : Block) (o : Option Exp) → NoPlace (exp.If s c b o)
-no_if s c b o = no_place (exp.If s c b o) (layer.If s c b o) (out_if s c b o) refl refl refl
+no_if : (i : If) → NoPlace (exp.If i)
+no_if i = no_place (exp.If i) (layer.If i) (out_if i) refl refl refl
 
 pub no_cast : (s : Span) (e : Exp) (ns : List Span) → NoPlace (exp.Cast s e ns)
 no_cast s e ns = no_place (exp.Cast s e ns) (layer.Cast s e ns) (out_cast s e ns) refl refl refl
@@ -74,21 +75,17 @@ no_binary s e os = no_place (exp.Binary s e os) (layer.Binary s e os) (out_binar
 no_match : (s : Span) (e : Exp) (as' : List Arm) → NoPlace (exp.Match s e as')
 no_match s e as' = no_place (exp.Match s e as') (layer.Match s e as') (out_match s e as') refl refl refl
 
-no_branch : (s : Span) (c : Exp) (b : Block) (o : Option Exp) → NoPlace (if_of s c b o)
-no_branch s c b None = no_if _ c b None
-no_branch s c b (Some e) = no_if _ c b (Some e)
-
 -- ---- names with steps
 
 -- the expression is this name with these steps
-abbrev pub Stepping : Exp → Span × List Postfix → Type 0
+abbrev pub Stepping : Exp → Span × List Step → Type 0
 Stepping e q = (steps_in e ≡ Some q) × ((place_in e ≡ Some (plain_target q)) × (span_of_exp e ≡ across q.0 (steps_end q.0 q.1)))
 
 -- the expression has no steps, and is no place
 abbrev pub NoSteps : Exp → Type 0
 NoSteps e = (steps_in e ≡ None) × (place_in e ≡ None)
 
-stepping : (e : Exp) (q : Span × List Postfix) → place_in e ≡ target_of (span_of_exp e) false (steps_in e) → steps_in e ≡ Some q → span_of_exp e ≡ across q.0 (steps_end q.0 q.1) → Stepping e q
+stepping : (e : Exp) (q : Span × List Step) → place_in e ≡ target_of (span_of_exp e) false (steps_in e) → steps_in e ≡ Some q → span_of_exp e ≡ across q.0 (steps_end q.0 q.1) → Stepping e q
 stepping e q h i j = (i, (h ∙ ap (λ z. target_of (span_of_exp e) false z) i ∙ ap (λ z. target_of z false (Some q)) j, j))
 
 name_steps : (n : Span) → Stepping (exp.Path (path.Name n)) (n, [])
@@ -106,7 +103,7 @@ unfolding span_of_exp span_of_path
 span_of_name n = ap exp_span (out_path (path.Name n))
 
 -- what stands behind an expression decides whether it is a place
-post_steps : (a : Exp) (p : Postfix) (ps : List Postfix) → steps_in (post_of a (p ∷ ps)) ≡ stepped (name_in a) (list_all is_step (p ∷ ps)) (p ∷ ps)
+post_steps : (a : Exp) (p : Postfix) (ps : List Postfix) → steps_in (post_of a (p ∷ ps)) ≡ stepped (name_in a) (all_steps (p ∷ ps))
 unfolding steps_in
 post_steps a p ps = ap steps_layer (out_post (across (span_of_exp a) (span_of_postfix (last_of p ps))) a (p ∷ ps))
 
@@ -118,54 +115,66 @@ post_span : (a : Exp) (p : Postfix) (ps : List Postfix) → span_of_exp (post_of
 unfolding span_of_exp
 post_span a p ps = ap exp_span (out_post (across (exp_span (out-Exp a)) (span_of_postfix (last_of p ps))) a (p ∷ ps))
 
-steps_place : (n : Span) (p : Postfix) (ps : List Postfix) → list_all is_step (p ∷ ps) ≡ true → Stepping (post_of (exp.Path (path.Name n)) (p ∷ ps)) (n, p ∷ ps)
-steps_place n p ps h =
-    let a : Exp = exp.Path (path.Name n) in
-    stepping (post_of a (p ∷ ps)) (n, p ∷ ps) (post_place a p ps)
-    (post_steps a p ps ∙ ap (λ z. stepped z (list_all is_step (p ∷ ps)) (p ∷ ps)) (name_of n) ∙ ap (λ z. stepped (Some n) z (p ∷ ps)) h)
-    (post_span a p ps ∙ ap (λ z. across z (span_of_postfix (last_of p ps))) (span_of_name n))
-
-no_steps : (a : Exp) (p : Postfix) (ps : List Postfix) → stepped (name_in a) (list_all is_step (p ∷ ps)) (p ∷ ps) ≡ None → NoSteps (post_of a (p ∷ ps))
+no_steps : (a : Exp) (p : Postfix) (ps : List Postfix) → stepped (name_in a) (all_steps (p ∷ ps)) ≡ None → NoSteps (post_of a (p ∷ ps))
 no_steps a p ps h =
     let i : steps_in (post_of a (p ∷ ps)) ≡ None = post_steps a p ps ∙ h in
     (i, post_place a p ps ∙ ap (λ z. target_of (span_of_exp (post_of a (p ∷ ps))) false z) i)
 
 -- ---- steps
 
-is_try : (s : Span) → is_step (postfix.Try s) ≡ false
-unfolding is_step
-is_try s = ap is_step_layer (out_try s)
+no_try : (s : Span) → step_in (postfix.Try s) ≡ None
+unfolding step_in
+no_try s = ap step_layer (out_try s)
 
-is_method : (s n : Span) (as' : List Arg) → is_step (postfix.Method s n as') ≡ false
-unfolding is_step
-is_method s n as' = ap is_step_layer (out_method s n as')
+no_method : (s n : Span) (as' : List Arg) → step_in (postfix.Method s n as') ≡ None
+unfolding step_in
+no_method s n as' = ap step_layer (out_method s n as')
 
-is_index : (s : Span) (e : Exp) → is_step (postfix.Index s e) ≡ true
-unfolding is_step
-is_index s e = ap is_step_layer (out_index s e)
+the_step : (t : Step) → step_in (postfix.Step t) ≡ Some t
+unfolding step_in
+the_step t = ap step_layer (out_step t)
 
-is_part : (s : Span) (i : Int) → is_step (postfix.Part s i) ≡ true
-unfolding is_step
-is_part s i = ap is_step_layer (out_part s i)
+step_end : (t : Step) → span_of_postfix (postfix.Step t) ≡ span_of_step t
+unfolding span_of_postfix
+step_end t = ap postfix_span (out_step t)
+
+-- steps as what stands behind an expression
+abbrev behind : List Step → List Postfix
+behind ts = map (λ t. postfix.Step t) ts
+
+the_steps : (ts : List Step) → all_steps (behind ts) ≡ Some ts
+the_steps [] = refl
+the_steps (t ∷ ts) = ap (λ z. and_steps z (all_steps (behind ts))) (the_step t) ∙ ap (and_steps (Some t)) (the_steps ts)
+
+last_behind : (t : Step) (ts : List Step) → span_of_postfix (last_of (postfix.Step t) (behind ts)) ≡ span_of_step (last_of t ts)
+last_behind t [] = step_end t
+last_behind t (u ∷ ts) = last_behind u ts
+
+-- a name with these steps
+steps_place : (n : Span) (ts : List Step) → Stepping (post_of (exp.Path (path.Name n)) (behind ts)) (n, ts)
+steps_place n [] = name_steps n
+steps_place n (t ∷ ts) =
+    let a : Exp = exp.Path (path.Name n) in
+    let p : Postfix = postfix.Step t in
+    let ps : List Postfix = behind ts in
+    stepping (post_of a (p ∷ ps)) (n, t ∷ ts) (post_place a p ps)
+    (post_steps a p ps ∙ ap (λ z. stepped z (all_steps (p ∷ ps))) (name_of n) ∙ ap (stepped (Some n)) (the_steps (t ∷ ts)))
+    (post_span a p ps ∙ ap (λ z. across z (span_of_postfix (last_of p ps))) (span_of_name n) ∙ ap (across n) (last_behind t ts))
 
 module _ (ρ : Derivings lexis rules) (β : Beginnings lexis rules) where
-  step_to : (w : List Token) (p : Postfix) → Derives ρ postfix_form w p → is_step p ≡ true → Derives ρ step_form w p
+  -- a step, or none
+  step_is : (w : List Token) (p : Postfix) → Derives ρ postfix_form w p → ((t : Step) × Derives ρ step_form w t × (postfix.Step t ≡ p)) ⊎ (step_in p ≡ None)
   unfolding postfix_form behind_dot method step_form
-  step_to w p (inl (s, d, j)) h = absurd (both_ways (is_step p) (subst (λ z. is_step z ≡ false) j (is_try s)) h)
-  step_to w p (inr (inl (u, v, s, f, i, d, inl (n, dn, x), j))) h = inr (u, v, s, n, i, d, dn, ap (λ g. g s) x ∙ j)
-  step_to w p (inr (inl (u, v, s, f, i, d, inr (r, q, m, a, l, dm, da, x), j))) h =
-      absurd (both_ways (is_step p) (subst (λ z. is_step z ≡ false) (ap (λ g. g s) x ∙ j) (is_method (across s a.1) m a.0)) h)
-  step_to w p (inr (inr d)) h = inl d
+  step_is w p (inl (s, d, j)) = inr (subst (λ z. step_in z ≡ None) j (no_try s))
+  step_is w p (inr (inl (u, v, s, f, i, d, inl (n, dn, x), j))) = inl (step.Part (across s n.span) n, inr (u, v, s, n, i, d, dn, refl), ap (λ g. g s) x ∙ j)
+  step_is w p (inr (inl (u, v, s, f, i, d, inr (r, q, m, a, l, dm, da, x), j))) =
+      inr (subst (λ z. step_in z ≡ None) (ap (λ g. g s) x ∙ j) (no_method (across s a.1) m a.0))
+  step_is w p (inr (inr (t, d, j))) = inl (t, inl d, j)
 
-  step_from : (w : List Token) (p : Postfix) → Derives ρ step_form w p → Derives ρ postfix_form w p
+  step_from : (w : List Token) (t : Step) → Derives ρ step_form w t → Derives ρ postfix_form w (postfix.Step t)
   unfolding postfix_form behind_dot step_form
-  step_from w p (inl d) = inr (inr d)
-  step_from w p (inr (u, v, s, n, i, d, dn, j)) = inr (inl (u, v, s, (λ s. postfix.Part (across s n.span) n), i, d, inl (n, dn, refl), j))
-
-  step_is : (w : List Token) (p : Postfix) → Derives ρ step_form w p → is_step p ≡ true
-  unfolding step_form index
-  step_is w p (inl (u, v, o, r, i, d, dr, j)) = subst (λ z. is_step z ≡ true) j (is_index (across o r.1) r.0)
-  step_is w p (inr (u, v, s, n, i, d, dn, j)) = subst (λ z. is_step z ≡ true) j (is_part (across s n.span) n)
+  step_from w t (inl d) = inr (inr (t, d, refl))
+  step_from w t (inr (u, v, s, n, i, d, dn, j)) = inr (inl (u, v, s, (λ s. postfix.Step (step.Part (across s n.span) n)), i, d, inl (n, dn, refl), ap (λ z. postfix.Step z) j))
 
   step_begun : (w : List Token) → Begun ρ β step_form w → Begun ρ β postfix_form w
   unfolding postfix_form behind_dot step_form
@@ -173,23 +182,31 @@ module _ (ρ : Derivings lexis rules) (β : Beginnings lexis rules) where
   step_begun w (inr (inl b)) = inr (inl (inl b))
   step_begun w (inr (inr (u, v, s, i, d, b))) = inr (inl (inr (u, v, s, i, d, inl b)))
 
-  steps_to : (ps : List Postfix) (w : List Token) → Turns (Derives ρ (item postfix_form)) ps None w → list_all is_step ps ≡ true → Turns (Derives ρ (item step_form)) ps None w
-  steps_to [] w t h = t
-  steps_to (p ∷ ps) w (u, v, i, d, t) h =
-      let both = and_parts (is_step p) (list_all is_step ps) h in
-      (u, v, i, (p, step_to u p (one_turn lexis rules ρ β postfix_form u p d) both.0, refl), steps_to ps v t both.1)
+  -- steps alone, or something else among them
+  Steps : List Postfix → List Token → Type 0
+  Steps ps w = ((ts : List Step) × Turns (Derives ρ (item step_form)) ts None w × (behind ts ≡ ps)) ⊎ (all_steps ps ≡ None)
 
-  steps_from : (ps : List Postfix) (w : List Token) → Turns (Derives ρ (item step_form)) ps None w → Turns (Derives ρ (item postfix_form)) ps None w
+  steps_are : (ps : List Postfix) (w : List Token) → Turns (Derives ρ (item postfix_form)) ps None w → Steps ps w
+  unfolding Steps
+  steps_are [] w t = inl ([], t, refl)
+  steps_are (p ∷ ps) w (u, v, i, d, t) = both (step_is u p (one_turn lexis rules ρ β postfix_form u p d)) (steps_are ps v t)
+    where
+      none_behind : (o : Option Step) → and_steps o None ≡ None
+      none_behind None = refl
+      none_behind (Some t) = refl
+
+      both : ((t : Step) × Derives ρ step_form u t × (postfix.Step t ≡ p)) ⊎ (step_in p ≡ None) → Steps ps v → Steps (p ∷ ps) w
+      both (inr n) s = inr (ap (λ z. and_steps z (all_steps ps)) n)
+      both (inl s) (inr n) = inr (ap (and_steps (step_in p)) n ∙ none_behind (step_in p))
+      both (inl (t, dt, j)) (inl (ts, dts, k)) = inl (t ∷ ts, (u, v, i, (t, dt, refl), dts), ap (λ z. z ∷ behind ts) j ∙ ap (λ z. p ∷ z) k)
+
+  steps_from : (ts : List Step) (w : List Token) → Turns (Derives ρ (item step_form)) ts None w → Turns (Derives ρ (item postfix_form)) (behind ts) None w
   steps_from [] w t = t
-  steps_from (p ∷ ps) w (u, v, i, d, t) = (u, v, i, (p, step_from u p (one_turn lexis rules ρ β step_form u p d), refl), steps_from ps v t)
-
-  steps_are : (ps : List Postfix) (w : List Token) → Turns (Derives ρ (item step_form)) ps None w → list_all is_step ps ≡ true
-  steps_are [] w t = refl
-  steps_are (p ∷ ps) w (u, v, i, d, t) = and_from (is_step p) (list_all is_step ps) (step_is u p (one_turn lexis rules ρ β step_form u p d)) (steps_are ps v t)
+  steps_from (s ∷ ts) w (u, v, i, d, t) = (u, v, i, (postfix.Step s, step_from u s (one_turn lexis rules ρ β step_form u s d), refl), steps_from ts v t)
 
   stars_begun : (w : List Token) → Begun ρ β (star step_form) w → Begun ρ β (star postfix_form) w
   stars_begun w (inl e) = inl e
-  stars_begun w (inr (u, v, ps, i, t, b)) = inr (u, v, ps, i, steps_from ps u t, step_begun v b)
+  stars_begun w (inr (u, v, ts, i, t, b)) = inr (u, v, behind ts, i, steps_from ts u t, step_begun v b)
 
   -- ---- operands
 
@@ -222,42 +239,36 @@ module _ (ρ : Derivings lexis rules) (β : Beginnings lexis rules) where
       go : ((n : Span) × Derives ρ name u n × (path.Name n ≡ p)) ⊎ NoPlace (exp.Path p) → Naming w e ⊎ NoPlace e
       go (inl (n, dn, x)) = inl (n, subst (λ z. Derives ρ name z n) (sym (i ∙ ap (λ z. u ++ z) dv ∙ append-nil u)) dn, ap (λ z. exp.Path z) x ∙ ap (call_of p) j ∙ m)
       go (inr z) = inr (subst NoPlace (ap (call_of p) j ∙ m) z)
-  prim_is w e (inr (inr (inr (inl (u, v, s, r, i, d, dd, j))))) = inr (subst NoPlace j (no_branch s r.0 r.1.0 r.1.1))
+  prim_is w e (inr (inr (inr (inl (i, d, j))))) = inr (subst NoPlace j (no_if i))
   prim_is w e (inr (inr (inr (inr (inl (u, v, s, r, i, d, dd, j)))))) = inr (subst NoPlace j (no_match _ r.0 r.1.0))
   prim_is w e (inr (inr (inr (inr (inr (b, d, j)))))) = inr (subst NoPlace j (no_block b))
 
   -- a name with steps, or neither steps nor a place
-  pub post_is : (w : List Token) (e : Exp) → Derives ρ post w e → ((q : Span × List Postfix) × Derives ρ place_form w q × Stepping e q) ⊎ NoSteps e
-  unfolding Naming post place_form
-  post_is w e (u, v, a, ps, i, d, (bs, o, t, x), j) = go bs (no_last lexis rules ρ β postfix_form bs o v t) (ap (post_of a) x ∙ j) (prim_is u a d)
+  pub post_is : (w : List Token) (e : Exp) → Derives ρ post w e → ((q : Span × List Step) × Derives ρ place_form w q × Stepping e q) ⊎ NoSteps e
+  unfolding Naming Steps post place_form
+  post_is w e (u, v, a, ps, i, d, (bs, o, t, x), j) = go bs (steps_are bs v (no_last lexis rules ρ β postfix_form bs o v t)) (ap (post_of a) x ∙ j) (prim_is u a d)
     where
-      go : (bs : List Postfix) → Turns (Derives ρ (item postfix_form)) bs None v → post_of a bs ≡ e → Naming u a ⊎ NoPlace a
-          → ((q : Span × List Postfix) × Derives ρ place_form w q × Stepping e q) ⊎ NoSteps e
-      go [] t j (inl (n, dn, y)) = inl ((n, []), (u, v, n, [], i, dn, ([], None, t, refl), refl), subst (λ z. Stepping z (n, [])) (y ∙ j) (name_steps n))
-      go [] t j (inr z) = inr (subst NoSteps j z.1)
-      go (p ∷ ps) t j (inl (n, dn, y)) = pick (list_all is_step (p ∷ ps)) refl
-        where
-          pick : (b : Bool) → list_all is_step (p ∷ ps) ≡ b → ((q : Span × List Postfix) × Derives ρ place_form w q × Stepping e q) ⊎ NoSteps e
-          pick true h = inl ((n, p ∷ ps), (u, v, n, p ∷ ps, i, dn, (p ∷ ps, None, steps_to (p ∷ ps) v t h, refl), refl), subst (λ z. Stepping z (n, p ∷ ps)) (ap (λ z. post_of z (p ∷ ps)) y ∙ j) (steps_place n p ps h))
-          pick false h = inr (subst NoSteps (ap (λ z. post_of z (p ∷ ps)) y ∙ j) (no_steps (exp.Path (path.Name n)) p ps (ap (λ z. stepped z (list_all is_step (p ∷ ps)) (p ∷ ps)) (name_of n) ∙ ap (λ z. stepped (Some n) z (p ∷ ps)) h)))
-      go (p ∷ ps) t j (inr z) = inr (subst NoSteps j (no_steps a p ps (ap (λ y. stepped y (list_all is_step (p ∷ ps)) (p ∷ ps)) z.0)))
+      go : (bs : List Postfix) → Steps bs v → post_of a bs ≡ e → Naming u a ⊎ NoPlace a → ((q : Span × List Step) × Derives ρ place_form w q × Stepping e q) ⊎ NoSteps e
+      go bs (inl (ts, t, k)) j (inl (n, dn, y)) =
+          inl ((n, ts), (u, v, n, ts, i, dn, (ts, None, t, refl), refl), subst (λ z. Stepping z (n, ts)) (ap (λ z. post_of z (behind ts)) y ∙ ap (post_of a) k ∙ j) (steps_place n ts))
+      go [] (inr k) j (inl q) = absurd (cc)
+      go (p ∷ ps) (inr k) j (inl (n, dn, y)) =
+          inr (subst NoSteps (ap (λ z. post_of z (p ∷ ps)) y ∙ j) (no_steps (exp.Path (path.Name n)) p ps (ap (λ z. stepped z (all_steps (p ∷ ps))) (name_of n) ∙ ap (stepped (Some n)) k)))
+      go [] s j (inr z) = inr (subst NoSteps j z.1)
+      go (p ∷ ps) s j (inr z) = inr (subst NoSteps j (no_steps a p ps (ap (λ y. stepped y (all_steps (p ∷ ps))) z.0)))
 
   name_prim : (w : List Token) (n : Span) → Derives ρ name w n → Derives ρ prim w (exp.Path (path.Name n))
   unfolding prim call_form path_form
   name_prim w n d = inr (inr (inl (w, [], path.Name n, None, sym (append-nil w), (w, [], n, None, sym (append-nil w), d, inr (refl, refl), refl), inr (refl, refl), refl)))
 
   -- a name with steps is an expression
-  pub post_from : (w : List Token) (q : Span × List Postfix) → Derives ρ place_form w q → (e : Exp) × Derives ρ post w e × Stepping e q
+  pub post_from : (w : List Token) (q : Span × List Step) → Derives ρ place_form w q → (e : Exp) × Derives ρ post w e × Stepping e q
   unfolding post place_form
-  post_from w q (u, v, n, ps, i, dn, (bs, o, t, x), j) = go bs (no_last lexis rules ρ β step_form bs o v t) (ap (λ z. (n, z)) x ∙ j)
-    where
-      go : (bs : List Postfix) → Turns (Derives ρ (item step_form)) bs None v → (n, bs) ≡ q → (e : Exp) × Derives ρ post w e × Stepping e q
-      go [] t j = (exp.Path (path.Name n), (u, v, exp.Path (path.Name n), [], i, name_prim u n dn, ([], None, t, refl), refl), subst (Stepping (exp.Path (path.Name n))) j (name_steps n))
-      go (p ∷ ps) t j = (
-        post_of (exp.Path (path.Name n)) (p ∷ ps),
-        (u, v, exp.Path (path.Name n), p ∷ ps, i, name_prim u n dn, (p ∷ ps, None, steps_from (p ∷ ps) v t, refl), refl),
-        subst (Stepping (post_of (exp.Path (path.Name n)) (p ∷ ps))) j (steps_place n p ps (steps_are (p ∷ ps) v t)),
-      )
+  post_from w q (u, v, n, ts, i, dn, (bs, o, t, x), j) = (
+    post_of (exp.Path (path.Name n)) (behind bs),
+    (u, v, exp.Path (path.Name n), behind bs, i, name_prim u n dn, (behind bs, None, steps_from bs v (no_last lexis rules ρ β step_form bs o v t), refl), refl),
+    subst (Stepping (post_of (exp.Path (path.Name n)) (behind bs))) (ap (λ z. (n, z)) x ∙ j) (steps_place n bs),
+  )
 
   pub post_begun : (w : List Token) → Begun ρ β place_form w → Begun ρ β post w
   unfolding post place_form prim call_form path_form

@@ -1,7 +1,7 @@
 -- Statements and blocks: what is written is what is read.
 use Rattle.std.proofs.Common.{◌≡◌, Bool, true, false, List, [], ◌∷◌, ◌++◌, Option, Some, None, ◌⊎◌, inl, inr, refl, sym, ap, ◌∙◌, subst, append-nil}
 use Rattle.std.proofs.lemmas.Bool.{both_ways}
-use Rattle.hs_grammar.specs.Form.{Step, More, Last, Map, Seq, Alt, Loop}
+use Rattle.hs_grammar.specs.Form.{Step as Turn, More, Last, Map, Seq, Alt, Loop}
 use Rattle.hs_grammar.specs.Kinds.{starts}
 use Rattle.hs_grammar.specs.Derives.{Derivings, Beginnings, Where, Derives, Begun}
 use Rattle.hs_grammar.specs.Same.{Same, Sane}
@@ -11,7 +11,7 @@ use Rattle.hs_syntax.specs.declared.span.Span.{Span}
 use Rattle.hs_syntax.specs.declared.exp.BinaryOp.{BinaryOp}
 use Rattle.hs_syntax.specs.declared.exp.Target.{Target}
 use Rattle.hs_syntax.specs.declared.exp.Exp.{Exp}
-use Rattle.hs_syntax.specs.declared.exp.Postfix.{Postfix}
+use Rattle.hs_syntax.specs.declared.exp.Step.{Step}
 use Rattle.hs_syntax.specs.declared.exp.Stmt.{Stmt}
 use Rattle.hs_syntax.specs.declared.exp.Stmt.TheVariants as stmt
 use Rattle.hs_forms.specs.declared.token.Kind.TheVariants as k
@@ -52,7 +52,7 @@ module _ (ρ : Derivings lexis rules) (β : Beginnings lexis rules) (sane : Sane
       finish (inl (close, dc, z)) = inr (inl (exp_stmt_of e close, (b, (u, v, e, close, i, (e, de, refl), dc, refl)), ap (λ h. h e) z ∙ j))
       finish (inr (n, z)) = inr (inr (e, (b, (e, subst (λ q. ρ RExp q e) (sym (i ∙ ap (λ q. u ++ q) n ∙ append-nil u)) de, refl)), ap (λ h. h e) z ∙ j))
 
-      assign : is_place e ≡ true → Derives ρ assigned v g → ((p : Target × List Postfix) × ρ RPlaced u p × (place_in e ≡ Some p)) ⊎ (place_in e ≡ None) → Derives ρ three w x
+      assign : is_place e ≡ true → Derives ρ assigned v g → ((p : Target × List Step) × ρ RPlaced u p × (place_in e ≡ Some p)) ⊎ (place_in e ≡ None) → Derives ρ three w x
       assign h (p, q, o, r, l, do', dr, z) (inl (t, dt, s)) =
           inl (
             stmt.Assign (across t.0.span r.1) t.0 t.1 o r.0,
@@ -80,7 +80,7 @@ module _ (ρ : Derivings lexis rules) (β : Beginnings lexis rules) (sane : Sane
           (a.0, a.1, refl),
           where_true (Derives ρ behind_place v (λ e. piece.Statement (assign_of e o r.0 r.1))) (Derives ρ finished v (λ e. piece.Statement (assign_of e o r.0 r.1))) (is_place a.0) (ap is_some a.2) (inl (p, q, o, r, l, do', dr, refl)),
           ap (λ q. piece.Statement (assign_to a.0 q o r.0 r.1)) a.2
-              ∙ ap (λ (t : Target × List Postfix). piece.Statement (stmt.Assign (across t.0.span r.1) t.0 t.1 o r.0)) y
+              ∙ ap (λ (t : Target × List Step). piece.Statement (stmt.Assign (across t.0.span r.1) t.0 t.1 o r.0)) y
               ∙ ap (λ (r : Option BinaryOp × (Exp × Span)). piece.Statement (stmt.Assign (across t'.0.span r.1.1) t'.0 t'.1 r.0 r.1.0)) z
               ∙ ap (λ s. piece.Statement s) j ∙ m,
         ),
@@ -110,7 +110,7 @@ module _ (ρ : Derivings lexis rules) (β : Beginnings lexis rules) (sane : Sane
       finish (inl bs) = inr (inl (b, inr (u, v, e, i, (e, de, refl), bs)))
       finish (inr n) = inr (inr (b, subst (β RExp) (sym (i ∙ ap (λ q. u ++ q) n ∙ append-nil u)) (sane.begun RExp u e de)))
 
-      assign : is_place e ≡ true → Begun ρ β assigned v → ((p : Target × List Postfix) × ρ RPlaced u p × (place_in e ≡ Some p)) ⊎ (place_in e ≡ None) → Begun ρ β three w
+      assign : is_place e ≡ true → Begun ρ β assigned v → ((p : Target × List Step) × ρ RPlaced u p × (place_in e ≡ Some p)) ⊎ (place_in e ≡ None) → Begun ρ β three w
       assign h bb (inl (t, dt, s)) = inl (inr (u, v, t, i, (t, dt, refl), bb))
       assign h bb (inr s) = absurd (both_ways (is_some (place_in e)) (ap is_some s) h)
 
@@ -215,16 +215,16 @@ module _ (ρ : Derivings lexis rules) (β : Beginnings lexis rules) (sane : Sane
 
   -- ---- blocks
 
-  abbrev turn : F (Step Stmt Exp)
+  abbrev turn : F (Turn Stmt Exp)
   turn = Map step_of_piece either
 
   more_from : (u : List Token) (s : Stmt) → Derives ρ turn u (More s) → Derives ρ written_stmt u s
-  more_from u s (p, inl (b, d, i), j) = let e : ◌≡◌ {A = Step Stmt Exp} (More b) (More s) = ap step_of_piece i ∙ j in let o : b ≡ s = cc in subst (Derives ρ written_stmt u) o d
-  more_from u s (p, inr (b, d, i), j) = let e : ◌≡◌ {A = Step Stmt Exp} (Last b) (More s) = ap step_of_piece i ∙ j in absurd (cc)
+  more_from u s (p, inl (b, d, i), j) = let e : ◌≡◌ {A = Turn Stmt Exp} (More b) (More s) = ap step_of_piece i ∙ j in let o : b ≡ s = cc in subst (Derives ρ written_stmt u) o d
+  more_from u s (p, inr (b, d, i), j) = let e : ◌≡◌ {A = Turn Stmt Exp} (Last b) (More s) = ap step_of_piece i ∙ j in absurd (cc)
 
   last_from : (u : List Token) (e : Exp) → Derives ρ turn u (Last e) → Derives ρ tail_exp u e
-  last_from u e (p, inl (b, d, i), j) = let h : ◌≡◌ {A = Step Stmt Exp} (More b) (Last e) = ap step_of_piece i ∙ j in absurd (cc)
-  last_from u e (p, inr (b, d, i), j) = let h : ◌≡◌ {A = Step Stmt Exp} (Last b) (Last e) = ap step_of_piece i ∙ j in let o : b ≡ e = cc in subst (Derives ρ tail_exp u) o d
+  last_from u e (p, inl (b, d, i), j) = let h : ◌≡◌ {A = Turn Stmt Exp} (More b) (Last e) = ap step_of_piece i ∙ j in absurd (cc)
+  last_from u e (p, inr (b, d, i), j) = let h : ◌≡◌ {A = Turn Stmt Exp} (Last b) (Last e) = ap step_of_piece i ∙ j in let o : b ≡ e = cc in subst (Derives ρ tail_exp u) o d
 
   pieces_same : Same ρ β (Seq (λ ss e. (ss, e)) (star written_stmt) (optional tail_exp)) pieces
   unfolding pieces

@@ -1,5 +1,5 @@
 -- What is assigned, and the expressions that are places.
-use Rattle.std.proofs.Common.{◌≡◌, ℕ, zero, suc, true, false, ◌||◌, List, [], ◌∷◌, ◌++◌, Some, None, ◌⊎◌, inl, inr, refl, sym, ap, ◌∙◌, subst, append-nil}
+use Rattle.std.proofs.Common.{◌≡◌, zero, true, false, ◌||◌, List, [], ◌∷◌, ◌++◌, Some, None, ◌⊎◌, inl, inr, refl, sym, ap, ◌∙◌, subst, append-nil}
 use Rattle.std.proofs.lemmas.Bool.{both_ways, or_cases, or_right}
 use Rattle.hs_grammar.specs.Form.{Grammar}
 use Rattle.hs_grammar.specs.Kinds.{has, disjoint, starts}
@@ -13,7 +13,9 @@ use Rattle.hs_syntax.specs.declared.exp.PrefixOp.TheVariants as prefix
 use Rattle.hs_syntax.specs.declared.exp.Target.{Target}
 use Rattle.hs_syntax.specs.declared.exp.Exp.{Exp}
 use Rattle.hs_syntax.specs.declared.exp.Operand.{Operand}
-use Rattle.hs_syntax.specs.declared.exp.Postfix.{Postfix}
+use Rattle.hs_syntax.specs.declared.exp.Step.{Step}
+use Rattle.hs_syntax.specs.declared.exp.Level.{Level}
+use Rattle.hs_syntax.specs.declared.exp.Level.TheVariants as level
 use Rattle.hs_syntax.specs.Spans.{span_of_exp}
 use Rattle.hs_forms.specs.declared.token.Kind.{Kind}
 use Rattle.hs_forms.specs.declared.token.Kind.TheVariants as k
@@ -21,7 +23,7 @@ use Rattle.hs_forms.specs.declared.token.Token.{Token}
 use Rattle.hs_forms.specs.Lexis.{lexis, tells, same}
 use Rattle.hs_forms.specs.Nodes.{across, prefix_of, prefix_named, cast_of, binary_of}
 use Rattle.hs_forms.specs.Blocks.{steps_layer, steps_in, target_of, starred, place_layer, place_in}
-use Rattle.hs_forms.specs.Grammar.{Rule, RExp, RUnary, RPlace, RPlaced, rules, F, name_kinds, name, post, unary, cast, operand, one_or_none, operands, level, place_form, plain_target, starred_target, placed_form, grammar}
+use Rattle.hs_forms.specs.Grammar.{Rule, RExp, RUnary, RPlace, RPlaced, rules, F, name_kinds, name, post, unary, cast, operand, one_or_none, operands, levels, binary, place_form, plain_target, starred_target, placed_form, grammar}
 use Rattle.hs_forms.proofs.Flags.{no_last}
 use Rattle.hs_forms.proofs.Layers.{out_prefix}
 use Rattle.hs_forms.proofs.Places.{Stepping, no_cast, no_binary, post_is, post_from, post_begun}
@@ -32,13 +34,13 @@ alone_kinds = k.LeftBrace ∷ k.If ∷ k.Match ∷ []
 
 -- what holds of the rules: which expressions are places, and that places are expressions
 pub record Targets (ρ : Derivings lexis rules) (β : Beginnings lexis rules) : Type 0 where
-  pub steps : (w : List Token) (e : Exp) → ρ RUnary w e → ((q : Span × List Postfix) × ρ RPlace w q × Stepping e q) ⊎ (steps_in e ≡ None)
-  pub step : (w : List Token) (q : Span × List Postfix) → ρ RPlace w q → (e : Exp) × ρ RUnary w e × Stepping e q
+  pub steps : (w : List Token) (e : Exp) → ρ RUnary w e → ((q : Span × List Step) × ρ RPlace w q × Stepping e q) ⊎ (steps_in e ≡ None)
+  pub step : (w : List Token) (q : Span × List Step) → ρ RPlace w q → (e : Exp) × ρ RUnary w e × Stepping e q
   pub step_begun : (w : List Token) → β RPlace w → β RUnary w
-  pub places : (w : List Token) (e : Exp) → ρ RExp w e → ((p : Target × List Postfix) × ρ RPlaced w p × (place_in e ≡ Some p)) ⊎ (place_in e ≡ None)
-  pub place : (w : List Token) (p : Target × List Postfix) → ρ RPlaced w p → (e : Exp) × ρ RExp w e × (place_in e ≡ Some p)
+  pub places : (w : List Token) (e : Exp) → ρ RExp w e → ((p : Target × List Step) × ρ RPlaced w p × (place_in e ≡ Some p)) ⊎ (place_in e ≡ None)
+  pub place : (w : List Token) (p : Target × List Step) → ρ RPlaced w p → (e : Exp) × ρ RExp w e × (place_in e ≡ Some p)
   pub place_begun : (w : List Token) → β RPlaced w → β RExp w
-  pub apart : (w : List Token) (p : Target × List Postfix) → ρ RPlaced w p → (v : List Token) → starts lexis alone_kinds (w ++ v) ≡ false
+  pub apart : (w : List Token) (p : Target × List Step) → ρ RPlaced w p → (v : List Token) → starts lexis alone_kinds (w ++ v) ≡ false
   pub begun_apart : (w : List Token) → β RPlaced w → starts lexis alone_kinds w ≡ false
 
 -- ---- prefixes
@@ -51,7 +53,7 @@ prefix_place : (t : Token) (e : Exp) → place_in (prefix_of t e) ≡ starred (a
 unfolding place_in
 prefix_place t e = ap (place_layer (prefix_of t e)) (out_prefix (across t.span (span_of_exp e)) (prefix_named t.kind) e)
 
-starred_place : (t : Token) (e : Exp) (q : Span × List Postfix) → t.kind ≡ k.Star → Stepping e q → place_in (prefix_of t e) ≡ Some (starred_target t.span q)
+starred_place : (t : Token) (e : Exp) (q : Span × List Step) → t.kind ≡ k.Star → Stepping e q → place_in (prefix_of t e) ≡ Some (starred_target t.span q)
 starred_place t e q h s =
     prefix_place t e
     ∙ ap (λ z. starred (across t.span (span_of_exp e)) (prefix_named z) e) h
@@ -75,12 +77,12 @@ apart_token ks t v d h = has-disjoint lexis tells ks alone_kinds t.kind d h
 module _ (ρ : Derivings lexis rules) (β : Beginnings lexis rules) (targets : Targets ρ β) where
   -- ---- operands with a prefix
 
-  unary_steps : (w : List Token) (e : Exp) → Derives ρ unary w e → ((q : Span × List Postfix) × Derives ρ place_form w q × Stepping e q) ⊎ (steps_in e ≡ None)
+  unary_steps : (w : List Token) (e : Exp) → Derives ρ unary w e → ((q : Span × List Step) × Derives ρ place_form w q × Stepping e q) ⊎ (steps_in e ≡ None)
   unfolding unary
   unary_steps w e (inl (u, v, t, a, i, d, dy, j)) = inr (subst (λ z. steps_in z ≡ None) j (prefix_steps t a))
   unary_steps w e (inr d) = elim (post_is ρ β w e d) [ inl s ↦ inl s | inr s ↦ inr s.0 ]
 
-  unary_step : (w : List Token) (q : Span × List Postfix) → Derives ρ place_form w q → (e : Exp) × Derives ρ unary w e × Stepping e q
+  unary_step : (w : List Token) (q : Span × List Step) → Derives ρ place_form w q → (e : Exp) × Derives ρ unary w e × Stepping e q
   unfolding unary
   unary_step w q d = let f : (e : Exp) × Derives ρ post w e × Stepping e q = post_from ρ β w q d in (f.0, inr f.1, f.2)
 
@@ -90,7 +92,7 @@ module _ (ρ : Derivings lexis rules) (β : Beginnings lexis rules) (targets : T
 
   -- a place, or none
   Placing : List Token → Exp → Type 0
-  Placing w e = ((p : Target × List Postfix) × Derives ρ placed_form w p × (place_in e ≡ Some p)) ⊎ (place_in e ≡ None)
+  Placing w e = ((p : Target × List Step) × Derives ρ placed_form w p × (place_in e ≡ Some p)) ⊎ (place_in e ≡ None)
 
   unary_places : (w : List Token) (e : Exp) → Derives ρ unary w e → Placing w e
   unfolding Placing unary placed_form
@@ -103,7 +105,7 @@ module _ (ρ : Derivings lexis rules) (β : Beginnings lexis rules) (targets : T
       none : (o : PrefixOp) → prefix_named t.kind ≡ o → starred (across t.span (span_of_exp a)) o a ≡ None → Placing w e
       none o g h = inr (subst (λ z. place_in z ≡ None) j (prefix_place t a ∙ ap (λ z. starred (across t.span (span_of_exp a)) z a) g ∙ h))
 
-      read : has lexis (k.Star ∷ []) t.kind ≡ true → ((q : Span × List Postfix) × ρ RPlace v q × Stepping a q) ⊎ (steps_in a ≡ None) → Placing w e
+      read : has lexis (k.Star ∷ []) t.kind ≡ true → ((q : Span × List Step) × ρ RPlace v q × Stepping a q) ⊎ (steps_in a ≡ None) → Placing w e
       read h (inl (q, dq, s)) =
           inl (
             starred_target t.span q,
@@ -121,7 +123,7 @@ module _ (ρ : Derivings lexis rules) (β : Beginnings lexis rules) (targets : T
       pick (inl h) = none prefix.Negate (ap prefix_named (sym (tells.one k.Minus t.kind h))) refl
       pick (inr h) = rest (or_cases (same k.Not t.kind) (same k.Star t.kind || false) h)
 
-  unary_place : (w : List Token) (p : Target × List Postfix) → Derives ρ placed_form w p → (e : Exp) × Derives ρ unary w e × (place_in e ≡ Some p)
+  unary_place : (w : List Token) (p : Target × List Step) → Derives ρ placed_form w p → (e : Exp) × Derives ρ unary w e × (place_in e ≡ Some p)
   unfolding unary placed_form
   unary_place w p (inr (q, d, j)) = let f : (e : Exp) × Derives ρ post w e × Stepping e q = post_from ρ β w q d in (f.0, inr f.1, f.2.1.0 ∙ ap (λ z. Some z) j)
   unary_place w p (inl (u, v, s, q', i, (t, f, b, x), (q, dq, y), j)) =
@@ -141,7 +143,7 @@ module _ (ρ : Derivings lexis rules) (β : Beginnings lexis rules) (targets : T
 
   -- ---- what a place begins with
 
-  placed_apart : (w : List Token) (p : Target × List Postfix) → Derives ρ placed_form w p → (z : List Token) → starts lexis alone_kinds (w ++ z) ≡ false
+  placed_apart : (w : List Token) (p : Target × List Step) → Derives ρ placed_form w p → (z : List Token) → starts lexis alone_kinds (w ++ z) ≡ false
   unfolding placed_form place_form name
   placed_apart w p (inl (u, v, s, q, i, (t, f, b, x), d, j)) z =
       subst (λ y. starts lexis alone_kinds (y ++ z) ≡ false) (sym (i ∙ ap (λ y. y ++ v) f)) (apart_token (k.Star ∷ []) t (v ++ z) refl (subst (λ y. starts lexis (k.Star ∷ []) y ≡ true) f b))
@@ -179,40 +181,40 @@ module _ (ρ : Derivings lexis rules) (β : Beginnings lexis rules) (targets : T
       go (n ∷ ns) t j = inr (subst (λ z. place_in z ≡ None) j (no_cast _ a (n ∷ ns)).1.1)
 
   -- no operand is of no token
-  no_operands : (n : ℕ) (f : F Exp) (v : List Token) (os : List Operand) → os ≡ [] → Derives ρ (operands n f) v os → v ≡ []
+  no_operands : (l : Level) (f : F Exp) (v : List Token) (os : List Operand) → os ≡ [] → Derives ρ (operands l f) v os → v ≡ []
   unfolding operands
-  no_operands (suc (suc (suc (suc (suc (suc zero)))))) f v os h (a, inl (o, d, x), j) = let c : o ∷ [] ≡ [] = ap one_or_none x ∙ j ∙ h in absurd (cc)
-  no_operands (suc (suc (suc (suc (suc (suc zero)))))) f v os h (a, inr (i, x), j) = i
-  no_operands n f v os h d = go d
+  no_operands level.Compare f v os h (a, inl (o, d, x), j) = let c : o ∷ [] ≡ [] = ap one_or_none x ∙ j ∙ h in absurd (cc)
+  no_operands level.Compare f v os h (a, inr (i, x), j) = i
+  no_operands l f v os h d = go d
     where
-      go : Derives ρ (star (operand n f)) v os → v ≡ []
+      go : Derives ρ (star (operand l f)) v os → v ≡ []
       go ([], None, t, x) = t
       go ([], Some z, (b, d, i), x) = absurd (cc)
       go (o ∷ bs, z, t, x) = absurd (cc)
 
-  none_operands : (n : ℕ) (f : F Exp) → Derives ρ (operands n f) [] []
+  none_operands : (l : Level) (f : F Exp) → Derives ρ (operands l f) [] []
   unfolding operands
-  none_operands (suc (suc (suc (suc (suc (suc zero)))))) f = (None, inr (refl, refl), refl)
-  none_operands n f = ([], None, refl, refl)
+  none_operands level.Compare f = (None, inr (refl, refl), refl)
+  none_operands l f = ([], None, refl, refl)
 
-  level_places : (n : ℕ) (w : List Token) (e : Exp) → Derives ρ (level n) w e → Placing w e
-  unfolding Placing level
-  level_places zero w e d = cast_places w e d
-  level_places (suc n) w e (u, v, a, os, i, d, x, j) = go (level_places n u a d) os x j
+  binary_places : (ls : List Level) (w : List Token) (e : Exp) → Derives ρ (binary ls) w e → Placing w e
+  unfolding Placing binary
+  binary_places [] w e d = cast_places w e d
+  binary_places (l ∷ ls) w e (u, v, a, os, i, d, x, j) = go (binary_places ls u a d) os x j
     where
-      go : Placing u a → (os : List Operand) → Derives ρ (operands n (level n)) v os → binary_of a os ≡ e → Placing w e
-      go p [] x j = placing_first u v w e i (no_operands n (level n) v [] refl x) (subst (Placing u) j p)
+      go : Placing u a → (os : List Operand) → Derives ρ (operands l (binary ls)) v os → binary_of a os ≡ e → Placing w e
+      go p [] x j = placing_first u v w e i (no_operands l (binary ls) v [] refl x) (subst (Placing u) j p)
       go p (o ∷ os) x j = inr (subst (λ z. place_in z ≡ None) j (no_binary _ a (o ∷ os)).1.1)
 
-  level_up : (n : ℕ) (w : List Token) (e : Exp) → Derives ρ unary w e → Derives ρ (level n) w e
-  unfolding level cast
-  level_up zero w e d = (w, [], e, [], sym (append-nil w), d, ([], None, refl, refl), refl)
-  level_up (suc n) w e d = (w, [], e, [], sym (append-nil w), level_up n w e d, none_operands n (level n), refl)
+  binary_up : (ls : List Level) (w : List Token) (e : Exp) → Derives ρ unary w e → Derives ρ (binary ls) w e
+  unfolding binary cast
+  binary_up [] w e d = (w, [], e, [], sym (append-nil w), d, ([], None, refl, refl), refl)
+  binary_up (l ∷ ls) w e d = (w, [], e, [], sym (append-nil w), binary_up ls w e d, none_operands l (binary ls), refl)
 
-  level_begun : (n : ℕ) (w : List Token) → Begun ρ β unary w → Begun ρ β (level n) w
-  unfolding level cast
-  level_begun zero w b = inl b
-  level_begun (suc n) w b = inl (level_begun n w b)
+  binary_begun : (ls : List Level) (w : List Token) → Begun ρ β unary w → Begun ρ β (binary ls) w
+  unfolding binary cast
+  binary_begun [] w b = inl b
+  binary_begun (l ∷ ls) w b = inl (binary_begun ls w b)
 
   -- the same a rule deeper
   pub deeper : (f : Grammar lexis rules) → ((N : Rule) → Same ρ β (f N) (grammar N)) → Targets (λ N w x. Derives ρ (f N) w x) (λ N w. Begun ρ β (f N) w)
@@ -221,9 +223,9 @@ module _ (ρ : Derivings lexis rules) (β : Beginnings lexis rules) (targets : T
     steps = λ w e d. elim (unary_steps w e ((each RUnary).to w e d)) [ inl (q, i, s) ↦ inl (q, (each RPlace).from w q i, s) | inr s ↦ inr s ];
     step = λ w q d. let a : (e : Exp) × Derives ρ unary w e × Stepping e q = unary_step w q ((each RPlace).to w q d) in (a.0, (each RUnary).from w a.0 a.1, a.2);
     step_begun = λ w b. (each RUnary).begun_from w (unary_step_begun w ((each RPlace).begun_to w b));
-    places = λ w e d. elim (level_places 9 w e ((each RExp).to w e d)) [ inl (p, i, s) ↦ inl (p, (each RPlaced).from w p i, s) | inr s ↦ inr s ];
-    place = λ w p d. let a : (e : Exp) × Derives ρ unary w e × (place_in e ≡ Some p) = unary_place w p ((each RPlaced).to w p d) in (a.0, (each RExp).from w a.0 (level_up 9 w a.0 a.1), a.2);
-    place_begun = λ w b. (each RExp).begun_from w (level_begun 9 w (unary_begun w ((each RPlaced).begun_to w b)));
+    places = λ w e d. elim (binary_places levels w e ((each RExp).to w e d)) [ inl (p, i, s) ↦ inl (p, (each RPlaced).from w p i, s) | inr s ↦ inr s ];
+    place = λ w p d. let a : (e : Exp) × Derives ρ unary w e × (place_in e ≡ Some p) = unary_place w p ((each RPlaced).to w p d) in (a.0, (each RExp).from w a.0 (binary_up levels w a.0 a.1), a.2);
+    place_begun = λ w b. (each RExp).begun_from w (binary_begun levels w (unary_begun w ((each RPlaced).begun_to w b)));
     apart = λ w p d. placed_apart w p ((each RPlaced).to w p d);
     begun_apart = λ w b. placed_begun_apart w ((each RPlaced).begun_to w b);
   }

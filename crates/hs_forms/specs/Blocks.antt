@@ -1,7 +1,6 @@
 -- Statements and the blocks that are made of them.
 use Rattle.std.specs.Prelude.{List, [], ◌∷◌, Bool, true, false, Option, Some, None}
-use Rattle.std.specs.List.{list_all}
-use Rattle.hs_grammar.specs.Form.{Step, More, Last}
+use Rattle.hs_grammar.specs.Form.{Step as Turn, More, Last}
 use Rattle.hs_syntax.specs.declared.span.Span.{Span}
 use Rattle.hs_syntax.specs.declared.ty.Ty.{Ty}
 use Rattle.hs_syntax.specs.declared.pat.Pat.{Pat}
@@ -16,6 +15,7 @@ use Rattle.hs_syntax.specs.declared.exp.Arg.TheOpen.{Exp-F, Postfix-F, Stmt-F}
 use Rattle.hs_syntax.specs.declared.exp.Arg.TheOpen as layer
 use Rattle.hs_syntax.specs.declared.exp.Exp.{Exp, out-Exp}
 use Rattle.hs_syntax.specs.declared.exp.Postfix.{Postfix, out-Postfix}
+use Rattle.hs_syntax.specs.declared.exp.Step.{Step}
 use Rattle.hs_syntax.specs.declared.exp.Stmt.{Stmt, out-Stmt}
 use Rattle.hs_syntax.specs.declared.exp.Stmt.TheVariants as stmt
 use Rattle.hs_syntax.specs.declared.exp.Block.{Block, roll-Block}
@@ -26,21 +26,31 @@ use Rattle.hs_forms.specs.Nodes.{across}
 
 -- ---- places
 
--- an index or a part
-abbrev pub is_step_layer : {A E P S R B O : Type 0} → Postfix-F A E P S R B O → Bool
-is_step_layer (layer.Try s) = false
-is_step_layer (layer.Method s n as') = false
-is_step_layer (layer.Index s e) = true
-is_step_layer (layer.Part s i) = true
+abbrev pub step_layer : {A L E P S R B I O : Type 0} → Postfix-F A L E P Step S R B I O → Option Step
+step_layer (layer.Try s) = None
+step_layer (layer.Method s n as') = None
+step_layer (layer.Step t) = Some t
 
-unfoldable pub is_step : Postfix → Bool
-is_step p = is_step_layer (out-Postfix p)
+-- the index or the part that stands behind an expression
+unfoldable pub step_in : Postfix → Option Step
+step_in p = step_layer (out-Postfix p)
+
+-- one more step before others
+abbrev pub and_steps : Option Step → Option (List Step) → Option (List Step)
+and_steps None ts = None
+and_steps (Some t) None = None
+and_steps (Some t) (Some ts) = Some (t ∷ ts)
+
+-- what stands behind an expression, where all of it is indices and parts
+abbrev pub all_steps : List Postfix → Option (List Step)
+all_steps [] = Some []
+all_steps (p ∷ ps) = and_steps (step_in p) (all_steps ps)
 
 abbrev pub name_in_path : Path → Option Span
 name_in_path (path.Name s) = Some s
 name_in_path _ = None
 
-abbrev pub name_layer : {A E P S R B O : Type 0} → Exp-F A E P S R B O → Option Span
+abbrev pub name_layer : {A L E P T S R B I O : Type 0} → Exp-F A L E P T S R B I O → Option Span
 name_layer (layer.Path p) = name_in_path p
 name_layer _ = None
 
@@ -48,36 +58,36 @@ name_layer _ = None
 unfoldable pub name_in : Exp → Option Span
 name_in e = name_layer (out-Exp e)
 
--- a name with steps behind it, where these are indices and parts
-abbrev pub stepped : Option Span → Bool → List Postfix → Option (Span × List Postfix)
-stepped None b ps = None
-stepped (Some n) true ps = Some (n, ps)
-stepped (Some n) false ps = None
+-- a name with steps behind it, where it is a name and they are steps
+abbrev pub stepped : Option Span → Option (List Step) → Option (Span × List Step)
+stepped None ts = None
+stepped (Some n) None = None
+stepped (Some n) (Some ts) = Some (n, ts)
 
-abbrev pub steps_layer : {A S R B O : Type 0} → Exp-F A Exp Postfix S R B O → Option (Span × List Postfix)
-steps_layer (layer.Path p) = stepped (name_in_path p) true []
-steps_layer (layer.Post s e ps) = stepped (name_in e) (list_all is_step ps) ps
+abbrev pub steps_layer : {A L T S R B I O : Type 0} → Exp-F A L Exp Postfix T S R B I O → Option (Span × List Step)
+steps_layer (layer.Path p) = stepped (name_in_path p) (Some [])
+steps_layer (layer.Post s e ps) = stepped (name_in e) (all_steps ps)
 steps_layer _ = None
 
 -- the name and the steps that an expression is
-unfoldable pub steps_in : Exp → Option (Span × List Postfix)
+unfoldable pub steps_in : Exp → Option (Span × List Step)
 steps_in e = steps_layer (out-Exp e)
 
-abbrev pub target_of : Span → Bool → Option (Span × List Postfix) → Option (Target × List Postfix)
+abbrev pub target_of : Span → Bool → Option (Span × List Step) → Option (Target × List Step)
 target_of whole star None = None
-target_of whole star (Some (n, ps)) = Some (record { span = whole; star = star; name = n }, ps)
+target_of whole star (Some (n, ts)) = Some (record { span = whole; star = star; name = n }, ts)
 
-abbrev pub starred : Span → PrefixOp → Exp → Option (Target × List Postfix)
+abbrev pub starred : Span → PrefixOp → Exp → Option (Target × List Step)
 starred s prefix.Read e = target_of s true (steps_in e)
 starred s prefix.Negate e = None
 starred s prefix.Not e = None
 
-abbrev pub place_layer : {A P S R B O : Type 0} → Exp → Exp-F A Exp P S R B O → Option (Target × List Postfix)
+abbrev pub place_layer : {A L P T S R B I O : Type 0} → Exp → Exp-F A L Exp P T S R B I O → Option (Target × List Step)
 place_layer whole (layer.Prefix s o e) = starred s o e
 place_layer whole _ = target_of (span_of_exp whole) false (steps_in whole)
 
 -- the place that an expression is: a name with indices and parts behind it, and perhaps a `*` before it
-unfoldable pub place_in : Exp → Option (Target × List Postfix)
+unfoldable pub place_in : Exp → Option (Target × List Step)
 place_in e = place_layer e (out-Exp e)
 
 abbrev pub is_some : {A : Type 0} → Option A → Bool
@@ -107,9 +117,9 @@ alone_of e (Some close) = stmt.Exp (across (span_of_exp e) close) e
 abbrev pub exp_stmt_of : Exp → Span → Stmt
 exp_stmt_of e close = stmt.Exp (across (span_of_exp e) close) e
 
-abbrev pub assign_to : Exp → Option (Target × List Postfix) → Option BinaryOp → Exp → Span → Stmt
+abbrev pub assign_to : Exp → Option (Target × List Step) → Option BinaryOp → Exp → Span → Stmt
 assign_to e None o right close = exp_stmt_of e close
-assign_to e (Some (t, ps)) o right close = stmt.Assign (across t.span close) t ps o right
+assign_to e (Some (t, ts)) o right close = stmt.Assign (across t.span close) t ts o right
 
 -- an assignment to the place that an expression is
 abbrev pub assign_of : Exp → Option BinaryOp → Exp → Span → Stmt
@@ -118,16 +128,16 @@ assign_of e o right close = assign_to e (place_in e) o right close
 -- ---- blocks
 
 -- a piece as a turn of a loop
-abbrev pub step_of_piece : Piece → Step Stmt Exp
+abbrev pub step_of_piece : Piece → Turn Stmt Exp
 step_of_piece (piece.Statement s) = More s
 step_of_piece (piece.Tail e) = Last e
 
 -- something, and whether it was the last, as a turn of a loop
-abbrev pub step_of : {A : Type 0} → A × Bool → Step A A
+abbrev pub step_of : {A : Type 0} → A × Bool → Turn A A
 step_of (a, true) = Last a
 step_of (a, false) = More a
 
-abbrev pub bare_layer : {A P S R B O : Type 0} → Stmt-F A Exp P S R B O → Option Exp
+abbrev pub bare_layer : {A L P T S R B I O : Type 0} → Stmt-F A L Exp P T S R B I O → Option Exp
 bare_layer (layer.Bare e) = Some e
 bare_layer _ = None
 

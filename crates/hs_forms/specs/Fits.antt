@@ -9,7 +9,7 @@ use Rattle.hs_forms.specs.declared.token.Kind.TheVariants as k
 use Rattle.hs_forms.specs.declared.piece.Piece.{Piece}
 use Rattle.hs_forms.specs.Lexis.{lexis, tells}
 use Rattle.hs_forms.specs.Blocks.{is_place, step_of_piece}
-use Rattle.hs_forms.specs.Grammar.{Rule, RFile, RType, RMaybe, RPat, RExp, RUnary, RBlock, RIf, ROpen, RPlace, RPlaced, rules, grammar, tables, F, name, int, next_type, next_types, types, angle, closed, close_maybe, maybe_closed, tuple_items, tuple_rest, bracketed, type_form, maybe_form, patterns, named_pattern, mutable_pattern, tuple_pattern, pat_form, member_pattern, behind_ctor, arm_pattern, path_type, path_of_type, behind_separator, path_form, lent, lent_arg, list_arg, arg_form, args_rest, args, call_form, behind_first, grouped_rest, grouped, else_branch, else_form, if_form, block_value, exp_value, arm_form, next_arms, arms, match_form, literal, alone, prim, method, behind_dot, index, postfix_form, post, unary, cast, operator, operand, operands, level, let_form, loop_variable, for_form, returned, return_form, alone_form, assign_op, assigned, finished, behind_place, exp_form, piece_form, pieces, block_form, mutable_param, lent_type, mode_type, named_param, param, parts, ctor, const_form, alias_form, struct_form, enum_form, params_rest, params, result_type, fn_form, data_form, declaration, derive_names, derived_item, public_item, plain_item, use_form, array_form, bytes_form, nat_mod_names, nat_mod_values, nat_mod_form, other_item, item_form, file_form, open_form, step_form, place_form, placed_form}
+use Rattle.hs_forms.specs.Grammar.{Rule, RFile, RType, RMaybe, RPat, RExp, RUnary, RBlock, RIf, ROpen, RPlace, RPlaced, rules, grammar, tables, F, name, int, next_type, next_types, types, angle, closed, close_maybe, maybe_closed, tuple_items, tuple_rest, bracketed, type_form, maybe_form, patterns, named_pattern, mutable_pattern, tuple_pattern, pat_form, member_pattern, behind_ctor, arm_pattern, path_type, path_of_type, behind_separator, path_form, lent, lent_arg, list_arg, arg_form, args_rest, args, call_form, behind_first, grouped_rest, grouped, else_branch, else_form, if_form, block_value, exp_value, arm_form, next_arms, arms, match_form, literal, alone, prim, method, behind_dot, index, postfix_form, post, unary, cast, operator, operand, operands, levels, binary, let_form, loop_variable, for_form, returned, return_form, alone_form, assign_op, assigned, finished, behind_place, exp_form, piece_form, pieces, block_form, mutable_param, lent_type, mode_type, named_param, param, parts, ctor, const_form, alias_form, struct_form, enum_form, params_rest, params, result_type, fn_form, data_form, declaration, derive_names, derived_item, public_item, plain_item, use_form, array_form, bytes_form, nat_mod_names, nat_mod_values, nat_mod_form, other_item, item_form, file_form, open_form, step_form, place_form, placed_form}
 
 type_fits : FitsRule tables grammar RType
 unfolding type_form bracketed tuple_rest tuple_items name closed angle types next_types next_type
@@ -32,8 +32,8 @@ unfolding unary post prim literal int grouped grouped_rest behind_first call_for
 unary_fits = record { fits = fits_by lexis rules tells tables unary refl; empty_is = refl; begin_in = refl; go_on_in = refl }
 
 exp_fits : FitsRule tables grammar RExp
-unfolding level operands operand operator cast unary post prim literal int grouped grouped_rest behind_first call_form path_form behind_separator path_of_type path_type name args args_rest arg_form lent_arg lent list_arg alone if_form else_form else_branch match_form arms next_arms arm_form block_value exp_value arm_pattern behind_ctor member_pattern patterns postfix_form behind_dot method index
-exp_fits = record { fits = fits_by lexis rules tells tables (level 9) refl; empty_is = refl; begin_in = refl; go_on_in = refl }
+unfolding binary operands operand operator cast unary post prim literal int grouped grouped_rest behind_first call_form path_form behind_separator path_of_type path_type name args args_rest arg_form lent_arg lent list_arg alone if_form else_form else_branch match_form arms next_arms arm_form block_value exp_value arm_pattern behind_ctor member_pattern patterns postfix_form behind_dot method index
+exp_fits = record { fits = fits_by lexis rules tells tables (binary levels) refl; empty_is = refl; begin_in = refl; go_on_in = refl }
 
 open_fits : FitsRule tables grammar ROpen
 unfolding open_form name

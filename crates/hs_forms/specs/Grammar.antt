@@ -1,6 +1,7 @@
 -- The grammar as one token of lookahead reads it.
-use Rattle.std.specs.Prelude.{ℕ, zero, suc, List, [], ◌∷◌, Bool, true, false, Option, Some, None}
+use Rattle.std.specs.Prelude.{List, [], ◌∷◌, Bool, true, false, Option, Some, None}
 use Rattle.hs_grammar.specs.Form.{Rules, rules_of, Form, Pure, Tok, Map, Seq, Split, Alt, Loop, Unless, Grammar}
+use Rattle.hs_grammar.specs.Kinds.{has}
 use Rattle.hs_grammar.specs.Lookahead.{Tables}
 use Rattle.hs_grammar.specs.Words.{word, rule, ◌>>◌, ◌<<◌, ◌&◌, optional, star, list_read}
 use Rattle.hs_syntax.specs.declared.span.Span.{Span}
@@ -13,13 +14,20 @@ use Rattle.hs_syntax.specs.declared.pat.ArmPat.{ArmPat}
 use Rattle.hs_syntax.specs.declared.pat.ArmPat.TheVariants as arm_pat
 use Rattle.hs_syntax.specs.declared.exp.Path.{Path}
 use Rattle.hs_syntax.specs.declared.exp.Path.TheVariants as path
+use Rattle.hs_syntax.specs.declared.exp.Level.{Level}
+use Rattle.hs_syntax.specs.declared.exp.Level.TheVariants as level
 use Rattle.hs_syntax.specs.declared.exp.BinaryOp.{BinaryOp}
 use Rattle.hs_syntax.specs.declared.exp.Target.{Target}
 use Rattle.hs_syntax.specs.declared.exp.Variable.{Variable}
 use Rattle.hs_syntax.specs.declared.exp.Variable.TheVariants as variable
 use Rattle.hs_syntax.specs.declared.exp.Exp.{Exp}
 use Rattle.hs_syntax.specs.declared.exp.Exp.TheVariants as exp
+use Rattle.hs_syntax.specs.declared.exp.If.{If}
+use Rattle.hs_syntax.specs.declared.exp.Else.{Else}
+use Rattle.hs_syntax.specs.declared.exp.Else.TheVariants as branch
 use Rattle.hs_syntax.specs.declared.exp.Operand.{Operand}
+use Rattle.hs_syntax.specs.declared.exp.Step.{Step}
+use Rattle.hs_syntax.specs.declared.exp.Step.TheVariants as step
 use Rattle.hs_syntax.specs.declared.exp.Postfix.{Postfix}
 use Rattle.hs_syntax.specs.declared.exp.Postfix.TheVariants as postfix
 use Rattle.hs_syntax.specs.declared.exp.Arg.{Arg}
@@ -34,8 +42,7 @@ use Rattle.hs_syntax.specs.declared.item.Ctor.{Ctor}
 use Rattle.hs_syntax.specs.declared.item.Item.{Item}
 use Rattle.hs_syntax.specs.declared.item.ItemKind.{ItemKind}
 use Rattle.hs_syntax.specs.declared.item.ItemKind.TheVariants as item
-use Rattle.hs_syntax.specs.declared.item.File.{File}
-use Rattle.hs_syntax.specs.Spans.{span_of_ty, span_of_exp, span_of_postfix, span_of_block}
+use Rattle.hs_syntax.specs.Spans.{span_of_ty, span_of_exp, span_of_step, span_of_block}
 use Rattle.hs_forms.specs.declared.token.Kind.{Kind}
 use Rattle.hs_forms.specs.declared.token.Kind.TheVariants as k
 use Rattle.hs_forms.specs.declared.token.Token.{Token}
@@ -65,17 +72,17 @@ pub data Rule : Type 0 where
 
 -- what each gives: of a type that may be open, whether it is; of one that lacks its bracket, its name and its items
 abbrev pub value : Rule → Type 0
-value RFile = File
+value RFile = List Item
 value RType = Ty
 value RMaybe = Ty × Bool
 value RPat = Pat
 value RExp = Exp
 value RUnary = Exp
 value RBlock = Block
-value RIf = Exp
+value RIf = If
 value ROpen = Span × List Ty
-value RPlace = Span × List Postfix
-value RPlaced = Target × List Postfix
+value RPlace = Span × List Step
+value RPlaced = Target × List Step
 
 abbrev pub rules : Rules
 rules = rules_of value
@@ -87,10 +94,15 @@ F = Form lexis rules
 abbrev pub at : Kind → F Span
 at kind = Tok (kind ∷ []) span_of
 
+-- the kinds of names
 abbrev pub name_kinds : List Kind
 name_kinds =
     k.Name ∷ k.Array ∷ k.Bytes ∷ k.NatMod ∷ k.HacspecLib ∷ k.Derive ∷ k.TypeName ∷ k.TypeOfCanvas
     ∷ k.BitSizeOfField ∷ k.ModuloValue ∷ []
+
+-- whether a token of this kind is a name
+abbrev pub is_name : Kind → Bool
+is_name kind = has lexis name_kinds kind
 
 -- NAME
 unfoldable pub name : F Span
@@ -279,16 +291,16 @@ unfoldable pub grouped : F Exp
 grouped = Seq (λ o f. f o) (at k.LeftParenthesis) grouped_rest
 
 -- what stands behind 'else': If | Block
-unfoldable pub else_branch : F Exp
-else_branch = Alt (rule RIf) (Map exp.Block block)
+unfoldable pub else_branch : F Else
+else_branch = Alt (Map branch.Chain (rule RIf)) (Map branch.Last block)
 
 -- ('else' (If | Block))?
-unfoldable pub else_form : F (Option Exp)
+unfoldable pub else_form : F (Option Else)
 else_form = optional (word k.Else >> else_branch)
 
 -- If
-unfoldable pub if_form : F Exp
-if_form = Seq (λ s (r : Exp × (Block × Option Exp)). if_of s r.0 r.1.0 r.1.1) (at k.If) (expression & (block & else_form))
+unfoldable pub if_form : F If
+if_form = Seq (λ s (r : Exp × (Block × Option Else)). if_of s r.0 r.1.0 r.1.1) (at k.If) (expression & (block & else_form))
 
 -- Block ','?
 unfoldable pub block_value : F (Exp × Bool)
@@ -334,7 +346,7 @@ literal = Alt (Map exp.Int int) (Alt (Tok (k.True ∷ []) (bool_of true)) (Tok (
 
 -- If | Match | Block
 unfoldable pub alone : F Exp
-alone = Alt if_form (Alt match_form (Map exp.Block block))
+alone = Alt (Map exp.If if_form) (Alt match_form (Map exp.Block block))
 
 -- Prim
 unfoldable pub prim : F Exp
@@ -346,15 +358,15 @@ method = Seq {C = Span → Postfix} (λ n r s. postfix.Method (across s r.1) n r
 
 -- what stands behind '.'
 unfoldable pub behind_dot : F (Span → Postfix)
-behind_dot = Alt (Map {C = Span → Postfix} (λ i s. postfix.Part (across s i.span) i) (Tok (k.Digits ∷ []) int_of)) method
+behind_dot = Alt (Map {C = Span → Postfix} (λ i s. postfix.Step (step.Part (across s i.span) i)) (Tok (k.Digits ∷ []) int_of)) method
 
 -- '[' Exp ']'
-unfoldable pub index : F Postfix
-index = Seq (λ o (r : Exp × Span). postfix.Index (across o r.1) r.0) (at k.LeftBracket) (expression & at k.RightBracket)
+unfoldable pub index : F Step
+index = Seq (λ o (r : Exp × Span). step.Index (across o r.1) r.0) (at k.LeftBracket) (expression & at k.RightBracket)
 
 -- '?' | '.' NAME '(' list(Arg)? ')' | Step
 unfoldable pub postfix_form : F Postfix
-postfix_form = Alt (Map postfix.Try (at k.Question)) (Alt (Seq (λ s f. f s) (at k.Dot) behind_dot) index)
+postfix_form = Alt (Map postfix.Try (at k.Question)) (Alt (Seq (λ s f. f s) (at k.Dot) behind_dot) (Map postfix.Step index))
 
 -- Post
 unfoldable pub post : F Exp
@@ -371,36 +383,41 @@ cast = Seq cast_of unary (star (word k.As >> name))
 abbrev pub op_of : Token → BinaryOp
 op_of t = op_named t.kind
 
--- the operators of a level of binding strength, from the strongest on
-unfoldable pub operator : ℕ → F BinaryOp
-operator zero = Tok (k.Star ∷ k.Slash ∷ k.Percent ∷ []) op_of
-operator (suc zero) = Tok (k.Plus ∷ k.Minus ∷ []) op_of
-operator (suc (suc zero)) = Alt (Tok (k.ShiftLeft ∷ []) op_of) (word k.ShiftFront >> Tok (k.ShiftBack ∷ []) op_of)
-operator (suc (suc (suc zero))) = Tok (k.And ∷ []) op_of
-operator (suc (suc (suc (suc zero)))) = Tok (k.Caret ∷ []) op_of
-operator (suc (suc (suc (suc (suc zero))))) = Tok (k.Or ∷ []) op_of
-operator (suc (suc (suc (suc (suc (suc zero)))))) =
-    Tok (k.EqualsEquals ∷ k.NotEquals ∷ k.Less ∷ k.LessEquals ∷ k.Greater ∷ k.GreaterEquals ∷ []) op_of
-operator (suc (suc (suc (suc (suc (suc (suc zero))))))) = Tok (k.AndAnd ∷ []) op_of
-operator (suc (suc (suc (suc (suc (suc (suc (suc n)))))))) = Tok (k.OrOr ∷ []) op_of
+-- the operators of a level of binding strength
+unfoldable pub operator : Level → F BinaryOp
+operator level.Product = Tok (k.Star ∷ k.Slash ∷ k.Percent ∷ []) op_of
+operator level.Sum = Tok (k.Plus ∷ k.Minus ∷ []) op_of
+operator level.Shift = Alt (Tok (k.ShiftLeft ∷ []) op_of) (word k.ShiftFront >> Tok (k.ShiftBack ∷ []) op_of)
+operator level.BitAnd = Tok (k.And ∷ []) op_of
+operator level.BitXor = Tok (k.Caret ∷ []) op_of
+operator level.BitOr = Tok (k.Or ∷ []) op_of
+operator level.Compare = Tok (k.EqualsEquals ∷ k.NotEquals ∷ k.Less ∷ k.LessEquals ∷ k.Greater ∷ k.GreaterEquals ∷ []) op_of
+operator level.And = Tok (k.AndAnd ∷ []) op_of
+operator level.Or = Tok (k.OrOr ∷ []) op_of
 
 -- an operator of the level, and its right operand
-unfoldable pub operand : ℕ → F Exp → F Operand
-operand n below = Seq operand_of (operator n) below
+unfoldable pub operand : Level → F Exp → F Operand
+operand l below = Seq operand_of (operator l) below
 
 abbrev pub one_or_none : {A : Type 0} → Option A → List A
 one_or_none None = []
 one_or_none (Some a) = a ∷ []
 
 -- any number of them; of a comparison at most one
-unfoldable pub operands : ℕ → F Exp → F (List Operand)
-operands (suc (suc (suc (suc (suc (suc zero)))))) below = Map one_or_none (optional (operand 6 below))
-operands n below = star (operand n below)
+unfoldable pub operands : Level → F Exp → F (List Operand)
+operands level.Compare below = Map one_or_none (optional (operand level.Compare below))
+operands l below = star (operand l below)
 
--- the expressions of so many levels
-unfoldable pub level : ℕ → F Exp
-level zero = cast
-level (suc n) = Seq binary_of (level n) (operands n (level n))
+-- all levels, from the weakest on
+abbrev pub levels : List Level
+levels =
+    level.Or ∷ level.And ∷ level.Compare ∷ level.BitOr ∷ level.BitXor ∷ level.BitAnd ∷ level.Shift ∷ level.Sum
+    ∷ level.Product ∷ []
+
+-- the expressions whose operators are of these levels, the weakest of which comes first
+unfoldable pub binary : List Level → F Exp
+binary [] = cast
+binary (l ∷ ls) = Seq binary_of (binary ls) (operands l (binary ls))
 
 -- ---- statements and blocks
 
@@ -633,8 +650,8 @@ unfoldable pub item_form : F Item
 item_form = Alt derived_item (Alt public_item (Alt other_item plain_item))
 
 -- File
-unfoldable pub file_form : F File
-file_form = Map (λ is. record { items = is }) (star item_form)
+unfoldable pub file_form : F (List Item)
+file_form = star item_form
 
 -- ---- what only the written grammar refers to
 
@@ -643,25 +660,25 @@ unfoldable pub open_form : F (Span × List Ty)
 open_form = name & (word k.Less >> (Seq (λ t ts. t ∷ ts) type_ (star (comma >> type_))))
 
 -- '[' Exp ']' | '.' INT
-unfoldable pub step_form : F Postfix
-step_form = Alt index (Seq (λ s i. postfix.Part (across s i.span) i) (at k.Dot) (Tok (k.Digits ∷ []) int_of))
+unfoldable pub step_form : F Step
+step_form = Alt index (Seq (λ s i. step.Part (across s i.span) i) (at k.Dot) (Tok (k.Digits ∷ []) int_of))
 
 -- NAME Step*
-unfoldable pub place_form : F (Span × List Postfix)
+unfoldable pub place_form : F (Span × List Step)
 place_form = name & star step_form
 
-abbrev pub steps_end : Span → List Postfix → Span
+abbrev pub steps_end : Span → List Step → Span
 steps_end n [] = n
-steps_end n (p ∷ ps) = span_of_postfix (last_of p ps)
+steps_end n (t ∷ ts) = span_of_step (last_of t ts)
 
-abbrev pub plain_target : Span × List Postfix → Target × List Postfix
-plain_target (n, ps) = (record { span = across n (steps_end n ps); star = false; name = n }, ps)
+abbrev pub plain_target : Span × List Step → Target × List Step
+plain_target (n, ts) = (record { span = across n (steps_end n ts); star = false; name = n }, ts)
 
-abbrev pub starred_target : Span → Span × List Postfix → Target × List Postfix
-starred_target s (n, ps) = (record { span = across s (steps_end n ps); star = true; name = n }, ps)
+abbrev pub starred_target : Span → Span × List Step → Target × List Step
+starred_target s (n, ts) = (record { span = across s (steps_end n ts); star = true; name = n }, ts)
 
 -- '*'? NAME Step*
-unfoldable pub placed_form : F (Target × List Postfix)
+unfoldable pub placed_form : F (Target × List Step)
 placed_form = Alt (Seq starred_target (at k.Star) (rule RPlace)) (Map plain_target place_form)
 
 -- ---- the grammar
@@ -671,7 +688,7 @@ grammar RFile = file_form
 grammar RType = type_form
 grammar RMaybe = maybe_form
 grammar RPat = pat_form
-grammar RExp = level 9
+grammar RExp = binary levels
 grammar RUnary = unary
 grammar RBlock = block_form
 grammar RIf = if_form

@@ -1,5 +1,5 @@
 pub mod Lexis
-pub mod Words
+pub mod Kinds
 pub mod Tokens
 pub mod Nodes
 pub mod Blocks

@@ -15,12 +15,14 @@ use Rattle.hs_syntax.specs.declared.exp.PrefixOp.{PrefixOp}
 use Rattle.hs_syntax.specs.declared.exp.PrefixOp.TheVariants as prefix
 use Rattle.hs_syntax.specs.declared.exp.Exp.{Exp}
 use Rattle.hs_syntax.specs.declared.exp.Exp.TheVariants as exp
+use Rattle.hs_syntax.specs.declared.exp.If.{If, roll-If}
+use Rattle.hs_syntax.specs.declared.exp.Else.{Else}
 use Rattle.hs_syntax.specs.declared.exp.Operand.{Operand, roll-Operand, out-Operand}
 use Rattle.hs_syntax.specs.declared.exp.Postfix.{Postfix}
 use Rattle.hs_syntax.specs.declared.exp.Arg.{Arg}
 use Rattle.hs_syntax.specs.declared.exp.Arm.{Arm, roll-Arm}
 use Rattle.hs_syntax.specs.declared.exp.Block.{Block}
-use Rattle.hs_syntax.specs.Spans.{span_of_arm_pat, span_of_path, span_of_exp, span_of_postfix, span_of_block}
+use Rattle.hs_syntax.specs.Spans.{span_of_arm_pat, span_of_path, span_of_exp, span_of_else, span_of_postfix, span_of_block}
 use Rattle.hs_forms.specs.declared.token.Kind.{Kind}
 use Rattle.hs_forms.specs.declared.token.Kind.TheVariants as k
 use Rattle.hs_forms.specs.declared.token.Token.{Token}
@@ -150,10 +152,13 @@ abbrev pub call_of : Path → Option (List Arg × Span) → Exp
 call_of p None = exp.Path p
 call_of p (Some (as', close)) = exp.Call (across (span_of_path p) close) p as'
 
--- `else` and what is behind it, or nothing
-abbrev pub if_of : Span → Exp → Block → Option Exp → Exp
-if_of word test then None = exp.If (across word (span_of_block then)) test then None
-if_of word test then (Some other) = exp.If (across word (span_of_exp other)) test then (Some other)
+-- where an `if` ends: behind what stands behind `else`, or behind its first branch
+abbrev pub if_end : Block → Option Else → Span
+if_end then None = span_of_block then
+if_end then (Some other) = span_of_else other
+
+abbrev pub if_of : Span → Exp → Block → Option Else → If
+if_of word test then other = roll-If (record { span = across word (if_end then other); condition = test; then = then; otherwise = other })
 
 abbrev pub match_of : Span → Exp → List Arm → Span → Exp
 match_of word e arms close = exp.Match (across word close) e arms

@@ -9,7 +9,7 @@ use Rattle.hs_forms.specs.declared.token.Kind.{Kind}
 use Rattle.hs_forms.specs.declared.token.Kind.TheVariants as k
 use Rattle.hs_forms.specs.declared.token.Token.{Token}
 use Rattle.hs_forms.specs.Lexis.{same}
-use Rattle.hs_forms.specs.Words.{kind_of}
+use Rattle.hs_forms.specs.Kinds.{kind_of}
 
 -- the value of an integer, and 0 of any other token
 abbrev pub value_of : TokenKind → ℕ

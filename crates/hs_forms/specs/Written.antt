@@ -11,6 +11,7 @@ use Rattle.hs_syntax.specs.declared.pat.ArmPat.{ArmPat}
 use Rattle.hs_syntax.specs.declared.pat.ArmPat.TheVariants as arm_pat
 use Rattle.hs_syntax.specs.declared.exp.Path.{Path}
 use Rattle.hs_syntax.specs.declared.exp.Path.TheVariants as path
+use Rattle.hs_syntax.specs.declared.exp.Level.TheVariants as level
 use Rattle.hs_syntax.specs.declared.exp.BinaryOp.{BinaryOp}
 use Rattle.hs_syntax.specs.declared.exp.Target.{Target}
 use Rattle.hs_syntax.specs.declared.exp.Variable.{Variable}
@@ -18,6 +19,7 @@ use Rattle.hs_syntax.specs.declared.exp.Exp.{Exp}
 use Rattle.hs_syntax.specs.declared.exp.Exp.TheVariants as exp
 use Rattle.hs_syntax.specs.declared.exp.Postfix.{Postfix}
 use Rattle.hs_syntax.specs.declared.exp.Postfix.TheVariants as postfix
+use Rattle.hs_syntax.specs.declared.exp.Step.{Step}
 use Rattle.hs_syntax.specs.declared.exp.Arg.{Arg}
 use Rattle.hs_syntax.specs.declared.exp.Arg.TheVariants as arg
 use Rattle.hs_syntax.specs.declared.exp.Arm.{Arm}
@@ -29,7 +31,6 @@ use Rattle.hs_syntax.specs.declared.item.Param.{Param}
 use Rattle.hs_syntax.specs.declared.item.Ctor.{Ctor}
 use Rattle.hs_syntax.specs.declared.item.Item.{Item}
 use Rattle.hs_syntax.specs.declared.item.ItemKind.TheVariants as item
-use Rattle.hs_syntax.specs.declared.item.File.{File}
 use Rattle.hs_syntax.specs.Spans.{span_of_ty, span_of_exp, span_of_block}
 use Rattle.hs_forms.specs.declared.token.Kind.TheVariants as k
 use Rattle.hs_forms.specs.Lexis.{lexis}
@@ -163,7 +164,7 @@ written_match =
 
 -- If | Match | Block
 unfoldable pub written_alone : F Exp
-written_alone = Alt if_form (Alt written_match (Map exp.Block block))
+written_alone = Alt (Map exp.If if_form) (Alt written_match (Map exp.Block block))
 
 -- '(' ')' | '(' Exp ')' | '(' Exp ',' list(Exp) ')'
 unfoldable pub written_grouped : F Exp
@@ -179,13 +180,13 @@ written_call = Seq call_of written_path (optional written_args)
 
 -- Prim ::= INT | 'true' | 'false' | '(' ')' | '(' Exp ')' | '(' Exp ',' list(Exp) ')' | Path ('(' list(Arg)? ')')? | Block | If | Match
 unfoldable pub written_prim : F Exp
-written_prim = Alt literal (Alt written_grouped (Alt written_call (Alt (Map exp.Block block) (Alt if_form written_match))))
+written_prim = Alt literal (Alt written_grouped (Alt written_call (Alt (Map exp.Block block) (Alt (Map exp.If if_form) written_match))))
 
 -- '?' | '.' NAME '(' list(Arg)? ')' | Step
 unfoldable pub written_postfix : F Postfix
 written_postfix =
     Alt (Map postfix.Try (at k.Question))
-    (Alt (Seq (λ s (r : Span × (List Arg × Span)). postfix.Method (across s r.1.1) r.0 r.1.0) (at k.Dot) (name & written_args)) step_form)
+    (Alt (Seq (λ s (r : Span × (List Arg × Span)). postfix.Method (across s r.1.1) r.0 r.1.0) (at k.Dot) (name & written_args)) (Map postfix.Step step_form))
 
 -- Post ::= Prim ('?' | '.' NAME '(' list(Arg)? ')' | Step)*
 unfoldable pub written_post : F Exp
@@ -205,39 +206,39 @@ chain_of o operand = Seq binary_of operand (star (Seq operand_of o operand))
 
 -- Prod ::= Cast (('*' | '/' | '%') Cast)*
 unfoldable pub written_product : F Exp
-written_product = chain_of (operator 0) written_cast
+written_product = chain_of (operator level.Product) written_cast
 
 -- Sum ::= Prod (('+' | '-') Prod)*
 unfoldable pub written_sum : F Exp
-written_sum = chain_of (operator 1) written_product
+written_sum = chain_of (operator level.Sum) written_product
 
 -- Shift ::= Sum (('<<' | '>>') Sum)*
 unfoldable pub written_shift : F Exp
-written_shift = chain_of (operator 2) written_sum
+written_shift = chain_of (operator level.Shift) written_sum
 
 -- Band ::= Shift ('&' Shift)*
 unfoldable pub written_bit_and : F Exp
-written_bit_and = chain_of (operator 3) written_shift
+written_bit_and = chain_of (operator level.BitAnd) written_shift
 
 -- Bxor ::= Band ('^' Band)*
 unfoldable pub written_bit_xor : F Exp
-written_bit_xor = chain_of (operator 4) written_bit_and
+written_bit_xor = chain_of (operator level.BitXor) written_bit_and
 
 -- Bor ::= Bxor ('|' Bxor)*
 unfoldable pub written_bit_or : F Exp
-written_bit_or = chain_of (operator 5) written_bit_xor
+written_bit_or = chain_of (operator level.BitOr) written_bit_xor
 
 -- Cmp ::= Bor (('==' | '!=' | '<' | '<=' | '>' | '>=') Bor)?
 unfoldable pub written_comparison : F Exp
-written_comparison = Seq binary_of written_bit_or (Map one_or_none (optional (Seq operand_of (operator 6) written_bit_or)))
+written_comparison = Seq binary_of written_bit_or (Map one_or_none (optional (Seq operand_of (operator level.Compare) written_bit_or)))
 
 -- And ::= Cmp ('&&' Cmp)*
 unfoldable pub written_and : F Exp
-written_and = chain_of (operator 7) written_comparison
+written_and = chain_of (operator level.And) written_comparison
 
 -- Exp ::= Or, Or ::= And ('||' And)*
 unfoldable pub written_exp : F Exp
-written_exp = chain_of (operator 8) written_and
+written_exp = chain_of (operator level.Or) written_and
 
 -- ---- statements and blocks
 
@@ -250,7 +251,7 @@ let_stmt =
 -- '*'? NAME Step* AssignOp Exp ';'
 unfoldable pub assign_stmt : F Stmt
 assign_stmt =
-    Seq (λ (p : Target × List Postfix) (r : Option BinaryOp × (Exp × Span)). stmt.Assign (across p.0.span r.1.1) p.0 p.1 r.0 r.1.0)
+    Seq (λ (p : Target × List Step) (r : Option BinaryOp × (Exp × Span)). stmt.Assign (across p.0.span r.1.1) p.0 p.1 r.0 r.1.0)
     (rule RPlaced) (assign_op & (expression & at k.Semicolon))
 
 -- 'for' (NAME | '_') 'in' Exp '..' Exp Block
@@ -361,8 +362,8 @@ written_item =
     (Alt (public written_fn) (Alt (bare array_form) (Alt (bare bytes_form) (bare nat_mod_form))))))))
 
 -- File ::= Item*
-unfoldable pub written_file : F File
-written_file = Map (λ is. record { items = is }) (star written_item)
+unfoldable pub written_file : F (List Item)
+written_file = star written_item
 
 -- ---- the grammar
 

@@ -2,35 +2,12 @@
 
 ghost use Rattle.std.specs.Prelude.{◌≡◌, ◌-◌, take, drop, bytes_eq};
 ghost use Rattle.std.specs.Str.{all_ascii_digits};
-ghost use Rattle.hs_forms.specs.Words.{named, long_marks, reserved_kind, name_kind, mark_kind, number_kind, kind_of};
+ghost use Rattle.hs_forms.specs.Kinds.{named, long_marks, reserved_kind, name_kind, mark_kind, number_kind, kind_of};
 ghost use Rattle.hs_forms.specs.declared.token.Kind.TheVariants.{Unused};
 
 use crate::token::Kind;
+use hs_base::parts::{behind, front};
 use hs_lexer::TokenKind;
-
-/// The bytes of the text behind so many of them.
-#[tactic(auto, using(std::proofs::lemmas::List::drop_all))]
-fn behind(text: &[u8], start: usize) -> &[u8]
-    ensures { result.now ≡ drop start text.now }
-{
-    if start < text.len() {
-        &text[start..]
-    } else {
-        &[]
-    }
-}
-
-/// So many of the text's first bytes, as far as there are any.
-#[tactic(auto, using(std::proofs::Common::take_all))]
-fn front(text: &[u8], length: usize) -> &[u8]
-    ensures { result.now ≡ take length text.now }
-{
-    if length < text.len() {
-        &text[..length]
-    } else {
-        text
-    }
-}
 
 /// The bytes of the text from one place up to another, as far as there are any.
 pub fn spelling(text: &[u8], start: u32, end: u32) -> &[u8]
@@ -50,7 +27,7 @@ fn is(bytes: &[u8], text: &str) -> bool
 }
 
 /// The kind of a reserved word.
-#[tactic(auto, unfolding(crate::specs::Words::reserved_kind))]
+#[tactic(auto, unfolding(crate::specs::Kinds::reserved_kind))]
 fn reserved_kind(bytes: &[u8]) -> Kind
     ensures { result ≡ reserved_kind bytes.now }
 {
@@ -96,7 +73,7 @@ fn reserved_kind(bytes: &[u8]) -> Kind
 }
 
 /// The kind of a name.
-#[tactic(auto, unfolding(crate::specs::Words::name_kind))]
+#[tactic(auto, unfolding(crate::specs::Kinds::name_kind))]
 fn name_kind(bytes: &[u8]) -> Kind
     ensures { result ≡ name_kind bytes.now }
 {
@@ -155,7 +132,7 @@ fn long_mark_kind(bytes: &[u8]) -> Kind
 }
 
 /// The kind of a mark; of `>>` the first half.
-#[tactic(auto, unfolding(crate::specs::Words::mark_kind))]
+#[tactic(auto, unfolding(crate::specs::Kinds::mark_kind))]
 fn mark_kind(bytes: &[u8]) -> Kind
     ensures { result ≡ mark_kind bytes.now }
 {
@@ -213,7 +190,7 @@ fn number_kind(bytes: &[u8]) -> Kind
 }
 
 /// The kind of a token with this spelling; of `>>` the first half.
-#[tactic(auto, unfolding(crate::specs::Words::kind_of))]
+#[tactic(auto, unfolding(crate::specs::Kinds::kind_of))]
 pub fn kind_of(kind: TokenKind, bytes: &[u8]) -> Kind
     ensures { result ≡ kind_of kind bytes.now }
 {

@@ -3,12 +3,12 @@
 
 mod kinds;
 mod piece;
+mod terminals;
 mod token;
-mod words;
 
 pub use piece::Piece;
-pub use token::{Kind, Token, tokens_of};
-pub use words::{across, at, int, is_at_name, name};
+pub use terminals::{across, at, int, is_at_name, name};
+pub use token::{Kind, NAME_KINDS, Token, tokens_of};
 
 #[cfg(test)]
 mod tests;

@@ -2,6 +2,7 @@
 
 ghost use Rattle.std.specs.Prelude.{◌≡◌, ◌++◌, IfOk};
 ghost use Rattle.hs_forms.specs.Nodes.{int_of};
+ghost use Rattle.hs_forms.specs.Grammar.{is_name};
 ghost use Rattle.hs_forms.specs.Tokens.{value_of, suffix_of, placed, both, tokens_of};
 
 use crate::kinds::{kind_of, spelling};
@@ -176,6 +177,41 @@ pub enum Kind {
     Hash,
     /// `_`
     Underscore,
+}
+
+/// The kinds of names: of those that stand for nothing but themselves, and of those that the grammar has as words too.
+pub const NAME_KINDS: [Kind; 10] = [
+    Kind::Name,
+    Kind::Array,
+    Kind::Bytes,
+    Kind::NatMod,
+    Kind::HacspecLib,
+    Kind::Derive,
+    Kind::TypeName,
+    Kind::TypeOfCanvas,
+    Kind::BitSizeOfField,
+    Kind::ModuloValue,
+];
+
+impl Kind {
+    /// Whether a token of this kind is a name.
+    pub fn is_name(self) -> bool
+        ensures { result ≡ is_name self }
+    {
+        matches!(
+            self,
+            Kind::Name
+                | Kind::Array
+                | Kind::Bytes
+                | Kind::NatMod
+                | Kind::HacspecLib
+                | Kind::Derive
+                | Kind::TypeName
+                | Kind::TypeOfCanvas
+                | Kind::BitSizeOfField
+                | Kind::ModuloValue
+        )
+    }
 }
 
 /// A token as the grammar sees it: its kind, its bytes in the text, and where it is an integer its value and suffix. The

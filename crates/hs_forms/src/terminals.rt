@@ -1,4 +1,4 @@
-//! Single tokens, by the words that forms have for them.
+//! The terminals of the grammar: single tokens.
 
 ghost use Rattle.std.specs.Prelude.{◌≡◌, ◌+◌, length, [], ◌∷◌, OnOk};
 ghost use Rattle.hs_grammar.specs.Kinds.{starts};
@@ -8,7 +8,7 @@ ghost use Rattle.hs_forms.specs.Lexis.{lexis};
 ghost use Rattle.hs_forms.specs.Nodes.{span_of, int_of, across};
 ghost use Rattle.hs_forms.specs.Grammar.{name_kinds};
 
-use crate::token::{Kind, Token};
+use crate::token::{Kind, NAME_KINDS, Token};
 use hs_grammar::cursor::Tokens;
 use hs_grammar::error::ParseError;
 use hs_syntax::{Int, Span};
@@ -27,18 +27,7 @@ pub fn across(first: Span, last: Span) -> Span
 pub fn is_at_name(tokens: &Tokens<'_, Token>) -> bool
     ensures { result ≡ starts lexis name_kinds tokens.now }
 {
-    tokens.is_at_any(&[
-        Kind::Name,
-        Kind::Array,
-        Kind::Bytes,
-        Kind::NatMod,
-        Kind::HacspecLib,
-        Kind::Derive,
-        Kind::TypeName,
-        Kind::TypeOfCanvas,
-        Kind::BitSizeOfField,
-        Kind::ModuloValue,
-    ])
+    tokens.is_at_any(&NAME_KINDS)
 }
 
 /// NAME, by its bytes.
@@ -48,18 +37,7 @@ pub fn name(tokens: &mut Tokens<'_, Token>) -> Result<Span, ParseError>
     ensures reads { Reads (giving span_of (token_of lexis name_kinds tokens.old)) result tokens.new }
     ensures shorter { OnOk result (length tokens.old ≡ length tokens.new + 1) }
 {
-    let token = tokens.expect_any(&[
-        Kind::Name,
-        Kind::Array,
-        Kind::Bytes,
-        Kind::NatMod,
-        Kind::HacspecLib,
-        Kind::Derive,
-        Kind::TypeName,
-        Kind::TypeOfCanvas,
-        Kind::BitSizeOfField,
-        Kind::ModuloValue,
-    ])?;
+    let token = tokens.expect_any(&NAME_KINDS)?;
     Ok(token.span)
 }
 
