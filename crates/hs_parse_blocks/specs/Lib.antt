@@ -1,2 +1,3 @@
 pub mod Annotation
 pub mod Body
+pub mod Places

@@ -2,11 +2,12 @@
 
 ghost use Rattle.std.specs.Prelude.{◌≡◌, IfErr, IfOk, None, Some};
 ghost use Rattle.hs_grammar.specs.Parser.{giving};
-ghost use Rattle.hs_grammar.specs.Reads.{Reads, Nests};
+ghost use Rattle.hs_grammar.specs.Reads.{Reads};
 ghost use Rattle.hs_grammar.specs.Until.{turn_of};
 ghost use Rattle.hs_forms.specs.Blocks as b;
 ghost use Rattle.hs_forms.specs.Grammar as g;
 ghost use Rattle.hs_forms.specs.Reading.{reads};
+ghost use Rattle.hs_parse_exps.specs.Follow.{FollowGrammar};
 ghost use Rattle.hs_parse_blocks.specs.Body.{piece_turn, with_statement, with_value};
 
 use crate::forms::Forms;
@@ -14,7 +15,7 @@ use hs_forms::{Kind, Piece, Token, across, at};
 use hs_grammar::cursor::Tokens;
 use hs_grammar::error::ParseError;
 use hs_grammar::loops::{Turn, repeat_until};
-use hs_syntax::{Block, Exp, Stmt};
+use hs_syntax::{Block, Exp, If, Stmt};
 use sqlite_items::{Boxed, Items};
 use std::alloc::{AllocError, Global};
 
@@ -98,7 +99,7 @@ impl<
     E: Fn(Global, &mut Tokens<'_, Token>, usize) -> Result<Exp, ParseError>,
     U: Fn(Global, &mut Tokens<'_, Token>, usize) -> Result<Exp, ParseError>,
     B: Fn(Global, &mut Tokens<'_, Token>, usize) -> Result<Block, ParseError>,
-    I: Fn(Global, &mut Tokens<'_, Token>, usize) -> Result<Exp, ParseError>,
+    I: Fn(Global, &mut Tokens<'_, Token>, usize) -> Result<If, ParseError>,
 > Forms<E, U, B, I> {
     /// One more statement, or the tail.
     fn next_piece(
@@ -106,9 +107,7 @@ impl<
         tokens: &mut Tokens<'_, Token>,
         body: Body,
     ) -> Result<Turn<Body>, ParseError>
-        requires exps { Nests g.tables g.grammar g.RExp self.now.rules.depth (E.pre self.now.rules.exp) (E.post self.now.rules.exp) }
-        requires blocks { Nests g.tables g.grammar g.RBlock self.now.rules.depth (B.pre self.now.rules.block) (B.post self.now.rules.block) }
-        requires others { Nests g.tables g.grammar g.RIf self.now.rules.depth (I.pre self.now.rules.other) (I.post self.now.rules.other) }
+        requires { FollowGrammar E.Fn U.Fn B.Fn I.Fn self.now.rules }
         ensures { Reads (giving (turn_of with_statement with_value body) (reads self.now.rules.depth piece_turn tokens.old)) result tokens.new }
     {
         let (mut statements, tail) = body;
@@ -126,9 +125,7 @@ impl<
 
     /// Stmt* Exp?
     fn pieces(&self, tokens: &mut Tokens<'_, Token>) -> Result<Body, ParseError>
-        requires exps { Nests g.tables g.grammar g.RExp self.now.rules.depth (E.pre self.now.rules.exp) (E.post self.now.rules.exp) }
-        requires blocks { Nests g.tables g.grammar g.RBlock self.now.rules.depth (B.pre self.now.rules.block) (B.post self.now.rules.block) }
-        requires others { Nests g.tables g.grammar g.RIf self.now.rules.depth (I.pre self.now.rules.other) (I.post self.now.rules.other) }
+        requires { FollowGrammar E.Fn U.Fn B.Fn I.Fn self.now.rules }
         ensures { Reads (reads self.now.rules.depth g.pieces tokens.old) result tokens.new }
     {
         let start = (Items::new(self.rules.alloc), None);
@@ -137,9 +134,7 @@ impl<
             start,
             PIECES,
             |body, tokens|
-                requires exps { Nests g.tables g.grammar g.RExp self.now.rules.depth (E.pre self.now.rules.exp) (E.post self.now.rules.exp) }
-                requires blocks { Nests g.tables g.grammar g.RBlock self.now.rules.depth (B.pre self.now.rules.block) (B.post self.now.rules.block) }
-                requires others { Nests g.tables g.grammar g.RIf self.now.rules.depth (I.pre self.now.rules.other) (I.post self.now.rules.other) }
+                requires { FollowGrammar E.Fn U.Fn B.Fn I.Fn self.now.rules }
                 ensures { Reads (giving (turn_of with_statement with_value body) (reads self.entry.now.rules.depth piece_turn tokens.old)) result tokens.new }
             { self.next_piece(tokens, body) },
         )
@@ -148,9 +143,7 @@ impl<
     /// Block.
     #[tactic(auto, unfolding(hs_forms::specs::Grammar::block_form))]
     pub fn block_form(&self, tokens: &mut Tokens<'_, Token>) -> Result<Block, ParseError>
-        requires exps { Nests g.tables g.grammar g.RExp self.now.rules.depth (E.pre self.now.rules.exp) (E.post self.now.rules.exp) }
-        requires blocks { Nests g.tables g.grammar g.RBlock self.now.rules.depth (B.pre self.now.rules.block) (B.post self.now.rules.block) }
-        requires others { Nests g.tables g.grammar g.RIf self.now.rules.depth (I.pre self.now.rules.other) (I.post self.now.rules.other) }
+        requires { FollowGrammar E.Fn U.Fn B.Fn I.Fn self.now.rules }
         ensures { Reads (reads self.now.rules.depth g.block_form tokens.old) result tokens.new }
     {
         let open = at(tokens, Kind::LeftBrace)?;

@@ -3,10 +3,12 @@
 ghost use Rattle.std.specs.Prelude.{◌≡◌, ◌≢◌};
 ghost use Rattle.hs_grammar.specs.Lookahead.{begin};
 ghost use Rattle.hs_grammar.specs.Parser.{giving};
-ghost use Rattle.hs_grammar.specs.Reads.{Reads, Nests};
+ghost use Rattle.hs_grammar.specs.Reads.{Reads};
 ghost use Rattle.hs_grammar.specs.Until.{pushed};
+ghost use Rattle.hs_syntax.specs.declared.exp.Level.TheVariants as strength;
 ghost use Rattle.hs_forms.specs.Grammar as g;
 ghost use Rattle.hs_forms.specs.Reading.{reads};
+ghost use Rattle.hs_parse_exps.specs.Follow.{FollowGrammar};
 
 use crate::forms::Forms;
 use crate::node::{binary_of, op_named};
@@ -14,28 +16,23 @@ use hs_forms::{Kind, Token};
 use hs_grammar::cursor::Tokens;
 use hs_grammar::error::ParseError;
 use hs_grammar::loops::repeat;
-use hs_syntax::{BinaryOp, Block, Exp, Operand};
+use hs_syntax::{BinaryOp, Block, Exp, If, Level, Operand};
 use sqlite_items::Items;
 use std::alloc::Global;
 
-/// The level of shifts.
-const SHIFTS: u8 = 2;
-
-/// The level of comparisons.
-const COMPARISONS: u8 = 6;
-
 /// The kinds with which an operator of the level begins.
-fn operators(n: u8) -> &'static [Kind]
-    ensures { result.now ≡ begin g.tables (g.operator n) }
+#[tactic(auto, unfolding(hs_forms::specs::Grammar::operator))]
+fn operators(level: Level) -> &'static [Kind]
+    ensures { result.now ≡ begin g.tables (g.operator level) }
 {
-    match n {
-        0 => &[Kind::Star, Kind::Slash, Kind::Percent],
-        1 => &[Kind::Plus, Kind::Minus],
-        2 => &[Kind::ShiftLeft, Kind::ShiftFront],
-        3 => &[Kind::And],
-        4 => &[Kind::Caret],
-        5 => &[Kind::Or],
-        6 => &[
+    match level {
+        Level::Product => &[Kind::Star, Kind::Slash, Kind::Percent],
+        Level::Sum => &[Kind::Plus, Kind::Minus],
+        Level::Shift => &[Kind::ShiftLeft, Kind::ShiftFront],
+        Level::BitAnd => &[Kind::And],
+        Level::BitXor => &[Kind::Caret],
+        Level::BitOr => &[Kind::Or],
+        Level::Compare => &[
             Kind::EqualsEquals,
             Kind::NotEquals,
             Kind::Less,
@@ -43,8 +40,8 @@ fn operators(n: u8) -> &'static [Kind]
             Kind::Greater,
             Kind::GreaterEquals,
         ],
-        7 => &[Kind::AndAnd],
-        _ => &[Kind::OrOr],
+        Level::And => &[Kind::AndAnd],
+        Level::Or => &[Kind::OrOr],
     }
 }
 
@@ -52,12 +49,12 @@ impl<
     E: Fn(Global, &mut Tokens<'_, Token>, usize) -> Result<Exp, ParseError>,
     U: Fn(Global, &mut Tokens<'_, Token>, usize) -> Result<Exp, ParseError>,
     B: Fn(Global, &mut Tokens<'_, Token>, usize) -> Result<Block, ParseError>,
-    I: Fn(Global, &mut Tokens<'_, Token>, usize) -> Result<Exp, ParseError>,
+    I: Fn(Global, &mut Tokens<'_, Token>, usize) -> Result<If, ParseError>,
 > Forms<E, U, B, I> {
     /// '<<' | '>' '>'
     #[tactic(auto, unfolding(hs_forms::specs::Grammar::operator))]
     fn shift(&self, tokens: &mut Tokens<'_, Token>) -> Result<BinaryOp, ParseError>
-        ensures { Reads (reads self.now.rules.depth (g.operator 2) tokens.old) result tokens.new }
+        ensures { Reads (reads self.now.rules.depth (g.operator strength.Shift) tokens.old) result tokens.new }
     {
         if tokens.is_at(Kind::ShiftLeft) {
             let token = tokens.expect(Kind::ShiftLeft)?;
@@ -69,101 +66,104 @@ impl<
     }
 
     /// An operator of a level other than that of shifts.
-    fn mark(&self, tokens: &mut Tokens<'_, Token>, n: u8) -> Result<BinaryOp, ParseError>
-        requires { n ≢ 2 }
-        ensures { Reads (reads self.now.rules.depth (g.operator n) tokens.old) result tokens.new }
+    fn mark(&self, tokens: &mut Tokens<'_, Token>, level: Level) -> Result<BinaryOp, ParseError>
+        requires { level ≢ strength.Shift }
+        ensures { Reads (reads self.now.rules.depth (g.operator level) tokens.old) result tokens.new }
     {
-        let token = tokens.expect_any(operators(n))?;
+        let token = tokens.expect_any(operators(level))?;
         Ok(op_named(token.kind))
     }
 
     /// An operator of the level.
-    fn operator(&self, tokens: &mut Tokens<'_, Token>, n: u8) -> Result<BinaryOp, ParseError>
-        ensures { Reads (reads self.now.rules.depth (g.operator n) tokens.old) result tokens.new }
+    fn operator(&self, tokens: &mut Tokens<'_, Token>, level: Level) -> Result<BinaryOp, ParseError>
+        ensures { Reads (reads self.now.rules.depth (g.operator level) tokens.old) result tokens.new }
     {
-        if n == SHIFTS {
+        if level == Level::Shift {
             self.shift(tokens)
         } else {
-            self.mark(tokens, n)
+            self.mark(tokens, level)
         }
     }
 
-    /// An operator of the level, and its right operand.
+    /// An operator of the level, and its right operand, whose operators bind stronger.
     #[cycle(levels)]
     #[tactic(auto, unfolding(hs_forms::specs::Grammar::operand))]
-    fn operand(&self, tokens: &mut Tokens<'_, Token>, n: u8) -> Result<Operand, ParseError>
-        requires exps { Nests g.tables g.grammar g.RExp self.now.rules.depth (E.pre self.now.rules.exp) (E.post self.now.rules.exp) }
-        requires unaries { Nests g.tables g.grammar g.RUnary self.now.rules.depth (U.pre self.now.rules.unary) (U.post self.now.rules.unary) }
-        requires blocks { Nests g.tables g.grammar g.RBlock self.now.rules.depth (B.pre self.now.rules.block) (B.post self.now.rules.block) }
-        requires others { Nests g.tables g.grammar g.RIf self.now.rules.depth (I.pre self.now.rules.other) (I.post self.now.rules.other) }
-        ensures { Reads (reads self.now.rules.depth (g.operand n (g.level n)) tokens.old) result tokens.new }
+    fn operand(
+        &self,
+        tokens: &mut Tokens<'_, Token>,
+        level: Level,
+        stronger: &[Level],
+    ) -> Result<Operand, ParseError>
+        requires { FollowGrammar E.Fn U.Fn B.Fn I.Fn self.now.rules }
+        ensures { Reads (reads self.now.rules.depth (g.operand level (g.binary stronger.now)) tokens.old) result tokens.new }
     {
-        let op = self.operator(tokens, n)?;
-        let right = self.level(tokens, n)?;
+        let op = self.operator(tokens, level)?;
+        let right = self.binary(tokens, stronger)?;
         Ok(Operand { op, right })
     }
 
     /// A comparison has at most one operand.
     #[cycle(levels)]
-    fn comparison(&self, tokens: &mut Tokens<'_, Token>) -> Result<Items<Operand>, ParseError>
-        requires exps { Nests g.tables g.grammar g.RExp self.now.rules.depth (E.pre self.now.rules.exp) (E.post self.now.rules.exp) }
-        requires unaries { Nests g.tables g.grammar g.RUnary self.now.rules.depth (U.pre self.now.rules.unary) (U.post self.now.rules.unary) }
-        requires blocks { Nests g.tables g.grammar g.RBlock self.now.rules.depth (B.pre self.now.rules.block) (B.post self.now.rules.block) }
-        requires others { Nests g.tables g.grammar g.RIf self.now.rules.depth (I.pre self.now.rules.other) (I.post self.now.rules.other) }
-        ensures { Reads (reads self.now.rules.depth (g.operands 6 (g.level 6)) tokens.old) result tokens.new }
+    fn comparison(
+        &self,
+        tokens: &mut Tokens<'_, Token>,
+        stronger: &[Level],
+    ) -> Result<Items<Operand>, ParseError>
+        requires { FollowGrammar E.Fn U.Fn B.Fn I.Fn self.now.rules }
+        ensures { Reads (reads self.now.rules.depth (g.operands strength.Compare (g.binary stronger.now)) tokens.old) result tokens.new }
     {
         let mut operands = Items::new(self.rules.alloc);
-        if tokens.is_at_any(operators(COMPARISONS)) {
-            let operand = self.operand(tokens, COMPARISONS)?;
+        if tokens.is_at_any(operators(Level::Compare)) {
+            let operand = self.operand(tokens, Level::Compare, stronger)?;
             operands.push(operand)?;
         }
         Ok(operands)
     }
 
-    /// Operators of the level with their right operands.
+    /// Operators of the level with their right operands, whose operators bind stronger.
     #[cycle(levels)]
-    fn operands(&self, tokens: &mut Tokens<'_, Token>, n: u8) -> Result<Items<Operand>, ParseError>
-        requires exps { Nests g.tables g.grammar g.RExp self.now.rules.depth (E.pre self.now.rules.exp) (E.post self.now.rules.exp) }
-        requires unaries { Nests g.tables g.grammar g.RUnary self.now.rules.depth (U.pre self.now.rules.unary) (U.post self.now.rules.unary) }
-        requires blocks { Nests g.tables g.grammar g.RBlock self.now.rules.depth (B.pre self.now.rules.block) (B.post self.now.rules.block) }
-        requires others { Nests g.tables g.grammar g.RIf self.now.rules.depth (I.pre self.now.rules.other) (I.post self.now.rules.other) }
-        ensures { Reads (reads self.now.rules.depth (g.operands n (g.level n)) tokens.old) result tokens.new }
+    fn operands(
+        &self,
+        tokens: &mut Tokens<'_, Token>,
+        level: Level,
+        stronger: &[Level],
+    ) -> Result<Items<Operand>, ParseError>
+        requires { FollowGrammar E.Fn U.Fn B.Fn I.Fn self.now.rules }
+        ensures { Reads (reads self.now.rules.depth (g.operands level (g.binary stronger.now)) tokens.old) result tokens.new }
     {
-        if n == COMPARISONS {
-            return self.comparison(tokens);
+        if level == Level::Compare {
+            return self.comparison(tokens, stronger);
         }
         let start = Items::new(self.rules.alloc);
         repeat(
             tokens,
             start,
-            operators(n),
+            operators(level),
             |operands, tokens|
-                requires exps { Nests g.tables g.grammar g.RExp self.now.rules.depth (E.pre self.now.rules.exp) (E.post self.now.rules.exp) }
-                requires unaries { Nests g.tables g.grammar g.RUnary self.now.rules.depth (U.pre self.now.rules.unary) (U.post self.now.rules.unary) }
-                requires blocks { Nests g.tables g.grammar g.RBlock self.now.rules.depth (B.pre self.now.rules.block) (B.post self.now.rules.block) }
-                requires others { Nests g.tables g.grammar g.RIf self.now.rules.depth (I.pre self.now.rules.other) (I.post self.now.rules.other) }
-                ensures { Reads (giving (pushed operands) (reads self.entry.now.rules.depth (g.operand n (g.level n)) tokens.old)) result tokens.new }
+                requires { FollowGrammar E.Fn U.Fn B.Fn I.Fn self.now.rules }
+                ensures { Reads (giving (pushed operands) (reads self.entry.now.rules.depth (g.operand level (g.binary stronger.entry.now)) tokens.old)) result tokens.new }
             {
                 let mut operands = operands;
-                let operand = self.operand(tokens, n)?;
+                let operand = self.operand(tokens, level, stronger)?;
                 operands.push(operand)?;
                 Ok(operands)
             },
         )
     }
 
-    /// The expressions of so many levels of binding strength.
+    /// The expressions whose operators are of these levels, the weakest of which comes first.
     #[cycle(levels)]
-    pub fn level(&self, tokens: &mut Tokens<'_, Token>, n: u8) -> Result<Exp, ParseError>
-        requires exps { Nests g.tables g.grammar g.RExp self.now.rules.depth (E.pre self.now.rules.exp) (E.post self.now.rules.exp) }
-        requires unaries { Nests g.tables g.grammar g.RUnary self.now.rules.depth (U.pre self.now.rules.unary) (U.post self.now.rules.unary) }
-        requires blocks { Nests g.tables g.grammar g.RBlock self.now.rules.depth (B.pre self.now.rules.block) (B.post self.now.rules.block) }
-        requires others { Nests g.tables g.grammar g.RIf self.now.rules.depth (I.pre self.now.rules.other) (I.post self.now.rules.other) }
-        ensures { Reads (reads self.now.rules.depth (g.level n) tokens.old) result tokens.new }
+    pub fn binary(
+        &self,
+        tokens: &mut Tokens<'_, Token>,
+        levels: &[Level],
+    ) -> Result<Exp, ParseError>
+        requires { FollowGrammar E.Fn U.Fn B.Fn I.Fn self.now.rules }
+        ensures { Reads (reads self.now.rules.depth (g.binary levels.now) tokens.old) result tokens.new }
     {
         let mut value = self.rules.cast(tokens)?;
-        for below in 0..n {
-            let operands = self.operands(tokens, below)?;
+        for at in (0..levels.len()).rev() {
+            let operands = self.operands(tokens, levels[at], &levels[at + 1..])?;
             value = binary_of(self.rules.alloc, value, operands)?;
         }
         Ok(value)

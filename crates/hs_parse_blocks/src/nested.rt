@@ -10,11 +10,35 @@ use hs_forms::Token;
 use hs_grammar::cursor::Tokens;
 use hs_grammar::error::ParseError;
 use hs_parse_exps::Rules;
-use hs_syntax::{Block, Exp};
+use hs_syntax::{Block, Exp, If, Level};
 use std::alloc::Global;
 
-/// How many levels of binding strength operators have.
-const LEVELS: u8 = 9;
+/// The levels of binding strength, from the weakest on.
+const LEVELS: [Level; 9] = [
+    Level::Or,
+    Level::And,
+    Level::Compare,
+    Level::BitOr,
+    Level::BitXor,
+    Level::BitAnd,
+    Level::Shift,
+    Level::Sum,
+    Level::Product,
+];
+
+/// The parsers of the rules that may nest as deep as this.
+macro_rules! rules {
+    ($alloc:expr, $depth:expr) => {
+        Rules {
+            alloc: $alloc,
+            depth: $depth,
+            exp: exp_rule,
+            unary: unary_rule,
+            block: block_rule,
+            other: if_rule,
+        }
+    };
+}
 
 /// Exp, with rules nested as deep.
 #[cycle(nested)]
@@ -24,15 +48,8 @@ fn exp_rule(alloc: Global, tokens: &mut Tokens<'_, Token>, depth: usize) -> Resu
     if depth == 0 {
         return Err(ParseError::TooDeep);
     }
-    let rules = Rules {
-        alloc,
-        depth: depth - 1,
-        exp: exp_rule,
-        unary: unary_rule,
-        block: block_rule,
-        other: if_rule,
-    };
-    Forms { rules }.level(tokens, LEVELS)
+    let rules = rules!(alloc, depth - 1);
+    Forms { rules }.binary(tokens, &LEVELS)
 }
 
 /// Unary, with rules nested as deep.
@@ -47,15 +64,7 @@ fn unary_rule(
     if depth == 0 {
         return Err(ParseError::TooDeep);
     }
-    let rules = Rules {
-        alloc,
-        depth: depth - 1,
-        exp: exp_rule,
-        unary: unary_rule,
-        block: block_rule,
-        other: if_rule,
-    };
-    rules.unary(tokens)
+    rules!(alloc, depth - 1).unary(tokens)
 }
 
 /// Block, with rules nested as deep.
@@ -70,34 +79,19 @@ fn block_rule(
     if depth == 0 {
         return Err(ParseError::TooDeep);
     }
-    let rules = Rules {
-        alloc,
-        depth: depth - 1,
-        exp: exp_rule,
-        unary: unary_rule,
-        block: block_rule,
-        other: if_rule,
-    };
+    let rules = rules!(alloc, depth - 1);
     Forms { rules }.block_form(tokens)
 }
 
 /// If, with rules nested as deep.
 #[cycle(nested)]
-fn if_rule(alloc: Global, tokens: &mut Tokens<'_, Token>, depth: usize) -> Result<Exp, ParseError>
+fn if_rule(alloc: Global, tokens: &mut Tokens<'_, Token>, depth: usize) -> Result<If, ParseError>
     ensures { Reads (parse_by g.tables g.grammar depth g.RIf tokens.old) result tokens.new }
 {
     if depth == 0 {
         return Err(ParseError::TooDeep);
     }
-    let rules = Rules {
-        alloc,
-        depth: depth - 1,
-        exp: exp_rule,
-        unary: unary_rule,
-        block: block_rule,
-        other: if_rule,
-    };
-    rules.if_form(tokens)
+    rules!(alloc, depth - 1).if_form(tokens)
 }
 
 /// Exp, where rules nest no deeper than `depth`.

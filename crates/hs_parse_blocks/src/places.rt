@@ -1,33 +1,34 @@
 //! The places that expressions are, and what is made of expressions that are statements.
 
-ghost use Rattle.std.specs.Prelude.{◌≡◌, List, Some};
-ghost use Rattle.std.specs.List.{list_all};
+ghost use Rattle.std.specs.Prelude.{◌≡◌, List, [], ◌++◌, Some, IfOk, OnOk};
+ghost use Rattle.std.specs.List.{cons_option, filter_map, list_all};
 ghost use Rattle.std.specs.Option.{option_map};
-ghost use Rattle.hs_syntax.specs.declared.exp.Postfix as postfix;
+ghost use Rattle.hs_syntax.specs.declared.exp.Step as step;
 ghost use Rattle.hs_syntax.specs.declared.exp.Target as target;
 ghost use Rattle.hs_forms.specs.Blocks as b;
+ghost use Rattle.hs_parse_blocks.specs.Places.{is_step};
 
 use hs_forms::across;
-use hs_syntax::{BinaryOp, Exp, Path, Postfix, PrefixOp, Span, Stmt, Target};
+use hs_syntax::{BinaryOp, Exp, Path, Postfix, PrefixOp, Span, Step, Stmt, Target};
 use sqlite_items::Items;
-use std::alloc::Global;
+use std::alloc::{AllocError, Global};
 
-/// Whether a step is an index or a part.
-#[tactic(auto, unfolding(hs_forms::specs::Blocks::is_step))]
-fn is_step(step: &Postfix) -> bool
-    ensures { result ≡ b.is_step step.now }
+/// Whether this is an index or a part.
+#[tactic(auto, unfolding(hs_forms::specs::Blocks::step_in, crate::specs::Places::is_step))]
+fn is_step(postfix: &Postfix) -> bool
+    ensures { result ≡ is_step postfix.now }
 {
-    match step {
-        Postfix::Index(_, _) | Postfix::Part(_, _) => true,
+    match postfix {
+        Postfix::Step(_) => true,
         Postfix::Try(_) | Postfix::Method(_, _, _) => false,
     }
 }
 
-/// Whether all steps are indices and parts.
-fn are_steps(steps: &[Postfix]) -> bool
-    ensures { result ≡ list_all b.is_step steps.now }
+/// Whether all of these are indices and parts.
+fn are_steps(postfixes: &[Postfix]) -> bool
+    ensures { result ≡ list_all is_step postfixes.now }
 {
-    steps.iter().all(|step| is_step(step))
+    postfixes.iter().all(|postfix| is_step(postfix))
 }
 
 /// The name that an expression is.
@@ -42,14 +43,14 @@ fn name_in(exp: &Exp) -> Option<Span>
 }
 
 /// The name that an expression is, with indices and parts behind it or none.
-#[tactic(auto, unfolding(hs_forms::specs::Blocks::steps_in, hs_forms::specs::Blocks::name_in), using(crate::proofs::Steps::stepped_name, crate::proofs::Steps::stepped_none))]
+#[tactic(auto, unfolding(hs_forms::specs::Blocks::steps_in, hs_forms::specs::Blocks::name_in), using(crate::proofs::Steps::stepped_alone))]
 fn stepped(exp: &Exp) -> Option<Span>
     ensures { result ≡ option_map (λ p. p.0) (b.steps_in exp.now) }
 {
     match exp {
         Exp::Path(_) => name_in(exp),
-        Exp::Post(_, first, steps) => {
-            if are_steps(steps.as_slice()) {
+        Exp::Post(_, first, postfixes) => {
+            if are_steps(postfixes.as_slice()) {
                 name_in(first.get())
             } else {
                 None
@@ -93,18 +94,47 @@ pub fn is_place(exp: &Exp) -> bool
     target_in(exp).is_some()
 }
 
-/// What stands behind the name of a place.
+/// Puts an index or a part at the end of the steps, and passes over what is neither.
+///
+/// Want of memory.
+#[tactic(auto, unfolding(hs_forms::specs::Blocks::step_in))]
+fn keep_step(steps: &mut Vec<Step>, postfix: Postfix) -> Result<(), AllocError>
+    ensures { OnOk result (steps.new.items ≡ steps.old.items ++ cons_option (b.step_in postfix) []) }
+{
+    if let Postfix::Step(step) = postfix {
+        steps.push(step)?;
+    }
+    Ok(())
+}
+
+/// Those of these that are indices and parts, in order.
+///
+/// Want of memory.
+fn steps_among(alloc: Global, mut postfixes: Items<Postfix>) -> Result<Items<Step>, AllocError>
+    ensures { IfOk result (λ steps. steps ≡ filter_map b.step_in postfixes) }
+{
+    let mut steps = Vec::new(alloc);
+    while let Some(postfix) = postfixes.pop() {
+        keep_step(&mut steps, postfix)?;
+    }
+    steps.reverse();
+    Ok(Items::from_vec(steps))
+}
+
+/// The steps behind the name of a place.
+///
+/// Want of memory.
 #[tactic(auto, unfolding(hs_forms::specs::Blocks::place_in, hs_forms::specs::Blocks::steps_in))]
-fn steps_of(alloc: Global, exp: Exp) -> Items<Postfix>
-    ensures { (t : target.Target) → (ps : List postfix.Postfix) → b.place_in exp ≡ Some (t, ps) → result ≡ ps }
+fn steps_of(alloc: Global, exp: Exp) -> Result<Items<Step>, AllocError>
+    ensures { (t : target.Target) → (ts : List step.Step) → b.place_in exp ≡ Some (t, ts) → IfOk result (λ steps. steps ≡ ts) }
 {
     match exp {
-        Exp::Post(_, _, steps) => steps,
+        Exp::Post(_, _, postfixes) => steps_among(alloc, postfixes),
         Exp::Prefix(_, _, inner) => match inner.into_inner() {
-            Exp::Post(_, _, steps) => steps,
-            _ => Items::new(alloc),
+            Exp::Post(_, _, postfixes) => steps_among(alloc, postfixes),
+            _ => Ok(Items::new(alloc)),
         },
-        _ => Items::new(alloc),
+        _ => Ok(Items::new(alloc)),
     }
 }
 
@@ -126,17 +156,21 @@ pub fn alone_of(exp: Exp, close: Option<Span>) -> Stmt
 }
 
 /// An assignment to the place that an expression is.
-pub fn assign_of(alloc: Global, exp: Exp, op: Option<BinaryOp>, right: Exp, close: Span) -> Stmt
-    ensures { result ≡ b.assign_of exp op right close }
+///
+/// Want of memory.
+pub fn assign_of(
+    alloc: Global,
+    exp: Exp,
+    op: Option<BinaryOp>,
+    right: Exp,
+    close: Span,
+) -> Result<Stmt, AllocError>
+    ensures { IfOk result (λ s. s ≡ b.assign_of exp op right close) }
 {
-    match target_in(&exp) {
-        Some(target) => Stmt::Assign(
-            across(target.span, close),
-            target,
-            steps_of(alloc, exp),
-            op,
-            right,
-        ),
-        None => exp_stmt_of(exp, close),
-    }
+    let Some(target) = target_in(&exp) else {
+        return Ok(exp_stmt_of(exp, close));
+    };
+    let span = across(target.span, close);
+    let steps = steps_of(alloc, exp)?;
+    Ok(Stmt::Assign(span, target, steps, op, right))
 }

@@ -3,12 +3,13 @@
 ghost use Rattle.std.specs.Prelude.{◌≡◌, false, [], ◌∷◌};
 ghost use Rattle.hs_grammar.specs.Kinds.{starts};
 ghost use Rattle.hs_grammar.specs.Parser.{giving};
-ghost use Rattle.hs_grammar.specs.Reads.{Reads, Nests};
+ghost use Rattle.hs_grammar.specs.Reads.{Reads};
 ghost use Rattle.hs_grammar.specs.Words.{optional};
 ghost use Rattle.hs_forms.specs.declared.token.Kind.TheVariants as k;
 ghost use Rattle.hs_forms.specs.Lexis.{lexis};
 ghost use Rattle.hs_forms.specs.Grammar as g;
 ghost use Rattle.hs_forms.specs.Reading.{reads};
+ghost use Rattle.hs_parse_exps.specs.Follow.{FollowGrammar};
 ghost use Rattle.hs_parse_blocks.specs.Annotation.{annotation};
 
 use crate::forms::Forms;
@@ -18,7 +19,7 @@ use hs_forms::{Kind, Piece, Token, across, at, name};
 use hs_grammar::cursor::Tokens;
 use hs_grammar::error::ParseError;
 use hs_parse_types::{pattern, ty};
-use hs_syntax::{BinaryOp, Block, Exp, Span, Stmt, Ty, Variable};
+use hs_syntax::{BinaryOp, Block, Exp, If, Span, Stmt, Ty, Variable};
 use std::alloc::Global;
 
 /// The kinds of `=` and its like.
@@ -40,7 +41,7 @@ impl<
     E: Fn(Global, &mut Tokens<'_, Token>, usize) -> Result<Exp, ParseError>,
     U: Fn(Global, &mut Tokens<'_, Token>, usize) -> Result<Exp, ParseError>,
     B: Fn(Global, &mut Tokens<'_, Token>, usize) -> Result<Block, ParseError>,
-    I: Fn(Global, &mut Tokens<'_, Token>, usize) -> Result<Exp, ParseError>,
+    I: Fn(Global, &mut Tokens<'_, Token>, usize) -> Result<If, ParseError>,
 > Forms<E, U, B, I> {
     /// (':' Type)?
     fn annotation(&self, tokens: &mut Tokens<'_, Token>) -> Result<Option<Ty>, ParseError>
@@ -56,7 +57,7 @@ impl<
     /// 'let' Pat (':' Type)? '=' Exp ';'
     #[tactic(auto, unfolding(hs_forms::specs::Grammar::let_form))]
     fn let_form(&self, tokens: &mut Tokens<'_, Token>) -> Result<Piece, ParseError>
-        requires { Nests g.tables g.grammar g.RExp self.now.rules.depth (E.pre self.now.rules.exp) (E.post self.now.rules.exp) }
+        requires { FollowGrammar E.Fn U.Fn B.Fn I.Fn self.now.rules }
         ensures { Reads (reads self.now.rules.depth g.let_form tokens.old) result tokens.new }
     {
         let word = at(tokens, Kind::Let)?;
@@ -82,8 +83,7 @@ impl<
     /// 'for' (NAME | '_') 'in' Exp '..' Exp Block
     #[tactic(auto, unfolding(hs_forms::specs::Grammar::for_form, hs_syntax::specs::Spans::span_of_block))]
     fn for_form(&self, tokens: &mut Tokens<'_, Token>) -> Result<Piece, ParseError>
-        requires exps { Nests g.tables g.grammar g.RExp self.now.rules.depth (E.pre self.now.rules.exp) (E.post self.now.rules.exp) }
-        requires blocks { Nests g.tables g.grammar g.RBlock self.now.rules.depth (B.pre self.now.rules.block) (B.post self.now.rules.block) }
+        requires { FollowGrammar E.Fn U.Fn B.Fn I.Fn self.now.rules }
         ensures { Reads (reads self.now.rules.depth g.for_form tokens.old) result tokens.new }
     {
         let word = at(tokens, Kind::For)?;
@@ -99,7 +99,7 @@ impl<
     /// What stands behind 'return': ';' | Exp ';'
     #[tactic(auto, unfolding(hs_forms::specs::Grammar::returned))]
     fn returned(&self, tokens: &mut Tokens<'_, Token>) -> Result<(Option<Exp>, Span), ParseError>
-        requires { Nests g.tables g.grammar g.RExp self.now.rules.depth (E.pre self.now.rules.exp) (E.post self.now.rules.exp) }
+        requires { FollowGrammar E.Fn U.Fn B.Fn I.Fn self.now.rules }
         ensures { Reads (reads self.now.rules.depth g.returned tokens.old) result tokens.new }
     {
         if tokens.is_at(Kind::Semicolon) {
@@ -113,7 +113,7 @@ impl<
     /// 'return' Exp? ';'
     #[tactic(auto, unfolding(hs_forms::specs::Grammar::return_form))]
     fn return_form(&self, tokens: &mut Tokens<'_, Token>) -> Result<Piece, ParseError>
-        requires { Nests g.tables g.grammar g.RExp self.now.rules.depth (E.pre self.now.rules.exp) (E.post self.now.rules.exp) }
+        requires { FollowGrammar E.Fn U.Fn B.Fn I.Fn self.now.rules }
         ensures { Reads (reads self.now.rules.depth g.return_form tokens.old) result tokens.new }
     {
         let word = at(tokens, Kind::Return)?;
@@ -134,9 +134,7 @@ impl<
     /// (If | Match | Block) ';'?
     #[tactic(auto, unfolding(hs_forms::specs::Grammar::alone_form))]
     fn alone_form(&self, tokens: &mut Tokens<'_, Token>) -> Result<Piece, ParseError>
-        requires exps { Nests g.tables g.grammar g.RExp self.now.rules.depth (E.pre self.now.rules.exp) (E.post self.now.rules.exp) }
-        requires blocks { Nests g.tables g.grammar g.RBlock self.now.rules.depth (B.pre self.now.rules.block) (B.post self.now.rules.block) }
-        requires others { Nests g.tables g.grammar g.RIf self.now.rules.depth (I.pre self.now.rules.other) (I.post self.now.rules.other) }
+        requires { FollowGrammar E.Fn U.Fn B.Fn I.Fn self.now.rules }
         ensures { Reads (reads self.now.rules.depth g.alone_form tokens.old) result tokens.new }
     {
         let exp = self.rules.alone(tokens)?;
@@ -156,13 +154,14 @@ impl<
     /// AssignOp Exp ';', behind a place
     #[tactic(auto, unfolding(hs_forms::specs::Grammar::assigned))]
     fn assigned(&self, tokens: &mut Tokens<'_, Token>, place: Exp) -> Result<Piece, ParseError>
-        requires { Nests g.tables g.grammar g.RExp self.now.rules.depth (E.pre self.now.rules.exp) (E.post self.now.rules.exp) }
+        requires { FollowGrammar E.Fn U.Fn B.Fn I.Fn self.now.rules }
         ensures { Reads (giving (λ f. f place) (reads self.now.rules.depth g.assigned tokens.old)) result tokens.new }
     {
         let op = self.assign_op(tokens)?;
         let right = self.rules.expression(tokens)?;
         let close = at(tokens, Kind::Semicolon)?;
-        Ok(Piece::Statement(assign_of(self.rules.alloc, place, op, right, close)))
+        let statement = assign_of(self.rules.alloc, place, op, right, close)?;
+        Ok(Piece::Statement(statement))
     }
 
     /// ';', or nothing behind the tail
@@ -180,7 +179,7 @@ impl<
     /// What stands behind a place.
     #[tactic(auto, unfolding(hs_forms::specs::Grammar::behind_place, hs_forms::specs::Grammar::assigned, hs_forms::specs::Grammar::assign_op))]
     fn behind_place(&self, tokens: &mut Tokens<'_, Token>, place: Exp) -> Result<Piece, ParseError>
-        requires { Nests g.tables g.grammar g.RExp self.now.rules.depth (E.pre self.now.rules.exp) (E.post self.now.rules.exp) }
+        requires { FollowGrammar E.Fn U.Fn B.Fn I.Fn self.now.rules }
         ensures { Reads (giving (λ f. f place) (reads self.now.rules.depth g.behind_place tokens.old)) result tokens.new }
     {
         if tokens.is_at_any(ASSIGNMENTS) {
@@ -193,7 +192,7 @@ impl<
     /// What begins with an expression that does not stand alone.
     #[tactic(auto, unfolding(hs_forms::specs::Grammar::exp_form))]
     fn exp_form(&self, tokens: &mut Tokens<'_, Token>) -> Result<Piece, ParseError>
-        requires exps { Nests g.tables g.grammar g.RExp self.now.rules.depth (E.pre self.now.rules.exp) (E.post self.now.rules.exp) }
+        requires parsers { FollowGrammar E.Fn U.Fn B.Fn I.Fn self.now.rules }
         requires not_alone { starts lexis (k.LeftBrace ∷ k.If ∷ k.Match ∷ []) tokens.old ≡ false }
         ensures { Reads (reads self.now.rules.depth g.exp_form tokens.old) result tokens.new }
     {
@@ -208,9 +207,7 @@ impl<
     /// A statement, or the tail.
     #[tactic(auto, unfolding(hs_forms::specs::Grammar::piece_form, hs_forms::specs::Grammar::let_form, hs_forms::specs::Grammar::for_form, hs_forms::specs::Grammar::return_form, hs_forms::specs::Grammar::alone_form, hs_forms::specs::Grammar::alone, hs_forms::specs::Grammar::if_form, hs_forms::specs::Grammar::match_form))]
     pub fn piece_form(&self, tokens: &mut Tokens<'_, Token>) -> Result<Piece, ParseError>
-        requires exps { Nests g.tables g.grammar g.RExp self.now.rules.depth (E.pre self.now.rules.exp) (E.post self.now.rules.exp) }
-        requires blocks { Nests g.tables g.grammar g.RBlock self.now.rules.depth (B.pre self.now.rules.block) (B.post self.now.rules.block) }
-        requires others { Nests g.tables g.grammar g.RIf self.now.rules.depth (I.pre self.now.rules.other) (I.post self.now.rules.other) }
+        requires { FollowGrammar E.Fn U.Fn B.Fn I.Fn self.now.rules }
         ensures { Reads (reads self.now.rules.depth g.piece_form tokens.old) result tokens.new }
     {
         if tokens.is_at(Kind::Let) {

@@ -1,11 +1,12 @@
 //! What a path is called with.
 
 ghost use Rattle.hs_grammar.specs.Parser.{giving};
-ghost use Rattle.hs_grammar.specs.Reads.{Reads, Nests};
+ghost use Rattle.hs_grammar.specs.Reads.{Reads};
 ghost use Rattle.hs_grammar.specs.Until.{turn_of, pushed, kept};
 ghost use Rattle.hs_grammar.specs.Words.{list_turn, list_read};
 ghost use Rattle.hs_forms.specs.Grammar as g;
 ghost use Rattle.hs_forms.specs.Reading.{reads};
+ghost use Rattle.hs_parse_exps.specs.Follow.{FollowGrammar};
 
 use crate::begins::is_at_arg;
 use crate::node;
@@ -15,20 +16,20 @@ use hs_forms::{Kind, Token, across, at, name};
 use hs_grammar::cursor::Tokens;
 use hs_grammar::error::ParseError;
 use hs_grammar::loops::{Turn, repeat_until};
-use hs_syntax::{Arg, Exp, Span};
+use hs_syntax::{Arg, Block, Exp, If, Span};
 use sqlite_items::Items;
 use std::alloc::Global;
 
-impl<E: Fn(Global, &mut Tokens<'_, Token>, usize) -> Result<Exp, ParseError>, U, B, I> Rules<
-    E,
-    U,
-    B,
-    I,
-> {
+impl<
+    E: Fn(Global, &mut Tokens<'_, Token>, usize) -> Result<Exp, ParseError>,
+    U: Fn(Global, &mut Tokens<'_, Token>, usize) -> Result<Exp, ParseError>,
+    B: Fn(Global, &mut Tokens<'_, Token>, usize) -> Result<Block, ParseError>,
+    I: Fn(Global, &mut Tokens<'_, Token>, usize) -> Result<If, ParseError>,
+> Rules<E, U, B, I> {
     /// 'mut' NAME | Exp, behind a '&'
     #[tactic(auto, unfolding(hs_forms::specs::Grammar::lent, hs_forms::specs::Grammar::name))]
     fn lent(&self, tokens: &mut Tokens<'_, Token>, mark: Span) -> Result<Arg, ParseError>
-        requires { Nests g.tables g.grammar g.RExp self.now.depth (E.pre self.now.exp) (E.post self.now.exp) }
+        requires { FollowGrammar E.Fn U.Fn B.Fn I.Fn self.now }
         ensures { Reads (giving (λ f. f mark) (reads self.now.depth g.lent tokens.old)) result tokens.new }
     {
         if tokens.is_at(Kind::Mut) {
@@ -43,7 +44,7 @@ impl<E: Fn(Global, &mut Tokens<'_, Token>, usize) -> Result<Exp, ParseError>, U,
     /// '&' 'mut' NAME | '&' Exp
     #[tactic(auto, unfolding(hs_forms::specs::Grammar::lent_arg))]
     fn lent_arg(&self, tokens: &mut Tokens<'_, Token>) -> Result<Arg, ParseError>
-        requires { Nests g.tables g.grammar g.RExp self.now.depth (E.pre self.now.exp) (E.post self.now.exp) }
+        requires { FollowGrammar E.Fn U.Fn B.Fn I.Fn self.now }
         ensures { Reads (reads self.now.depth g.lent_arg tokens.old) result tokens.new }
     {
         let mark = at(tokens, Kind::And)?;
@@ -53,7 +54,7 @@ impl<E: Fn(Global, &mut Tokens<'_, Token>, usize) -> Result<Exp, ParseError>, U,
     /// '[' list(Exp) ']'
     #[tactic(auto, unfolding(hs_forms::specs::Grammar::list_arg))]
     fn list_arg(&self, tokens: &mut Tokens<'_, Token>) -> Result<Arg, ParseError>
-        requires { Nests g.tables g.grammar g.RExp self.now.depth (E.pre self.now.exp) (E.post self.now.exp) }
+        requires { FollowGrammar E.Fn U.Fn B.Fn I.Fn self.now }
         ensures { Reads (reads self.now.depth g.list_arg tokens.old) result tokens.new }
     {
         let left = at(tokens, Kind::LeftBracket)?;
@@ -65,7 +66,7 @@ impl<E: Fn(Global, &mut Tokens<'_, Token>, usize) -> Result<Exp, ParseError>, U,
     /// Arg
     #[tactic(auto, unfolding(hs_forms::specs::Grammar::arg_form, hs_forms::specs::Grammar::lent_arg, hs_forms::specs::Grammar::list_arg))]
     fn arg_form(&self, tokens: &mut Tokens<'_, Token>) -> Result<Arg, ParseError>
-        requires { Nests g.tables g.grammar g.RExp self.now.depth (E.pre self.now.exp) (E.post self.now.exp) }
+        requires { FollowGrammar E.Fn U.Fn B.Fn I.Fn self.now }
         ensures { Reads (reads self.now.depth g.arg_form tokens.old) result tokens.new }
     {
         if tokens.is_at(Kind::And) {
@@ -83,7 +84,7 @@ impl<E: Fn(Global, &mut Tokens<'_, Token>, usize) -> Result<Exp, ParseError>, U,
         tokens: &mut Tokens<'_, Token>,
         mut found: Items<Arg>,
     ) -> Result<Turn<Items<Arg>>, ParseError>
-        requires { Nests g.tables g.grammar g.RExp self.now.depth (E.pre self.now.exp) (E.post self.now.exp) }
+        requires { FollowGrammar E.Fn U.Fn B.Fn I.Fn self.now }
         ensures { Reads (giving (turn_of pushed kept found) (reads self.now.depth (list_turn g.comma g.arg_form) tokens.old)) result tokens.new }
     {
         tokens.expect(Kind::Comma)?;
@@ -96,7 +97,7 @@ impl<E: Fn(Global, &mut Tokens<'_, Token>, usize) -> Result<Exp, ParseError>, U,
 
     /// list(Arg)
     fn arg_list(&self, tokens: &mut Tokens<'_, Token>) -> Result<Items<Arg>, ParseError>
-        requires { Nests g.tables g.grammar g.RExp self.now.depth (E.pre self.now.exp) (E.post self.now.exp) }
+        requires { FollowGrammar E.Fn U.Fn B.Fn I.Fn self.now }
         ensures { Reads (reads self.now.depth (list_read g.comma g.arg_form) tokens.old) result tokens.new }
     {
         let mut found = Items::new(self.alloc);
@@ -106,7 +107,7 @@ impl<E: Fn(Global, &mut Tokens<'_, Token>, usize) -> Result<Exp, ParseError>, U,
             found,
             &[Kind::Comma],
             |found, tokens|
-                requires { Nests g.tables g.grammar g.RExp self.now.depth (E.pre self.now.exp) (E.post self.now.exp) }
+                requires { FollowGrammar E.Fn U.Fn B.Fn I.Fn self.now }
                 ensures { Reads (giving (turn_of pushed kept found) (reads self.entry.now.depth (list_turn g.comma g.arg_form) tokens.old)) result tokens.new }
             { self.next_arg(tokens, found) },
         )
@@ -115,7 +116,7 @@ impl<E: Fn(Global, &mut Tokens<'_, Token>, usize) -> Result<Exp, ParseError>, U,
     /// ')' | list(Arg) ')', behind a '('
     #[tactic(auto, unfolding(hs_forms::specs::Grammar::args_rest))]
     fn args_rest(&self, tokens: &mut Tokens<'_, Token>) -> Result<(Items<Arg>, Span), ParseError>
-        requires { Nests g.tables g.grammar g.RExp self.now.depth (E.pre self.now.exp) (E.post self.now.exp) }
+        requires { FollowGrammar E.Fn U.Fn B.Fn I.Fn self.now }
         ensures { Reads (reads self.now.depth g.args_rest tokens.old) result tokens.new }
     {
         if tokens.is_at(Kind::RightParenthesis) {
@@ -133,7 +134,7 @@ impl<E: Fn(Global, &mut Tokens<'_, Token>, usize) -> Result<Exp, ParseError>, U,
         &self,
         tokens: &mut Tokens<'_, Token>,
     ) -> Result<(Items<Arg>, Span), ParseError>
-        requires { Nests g.tables g.grammar g.RExp self.now.depth (E.pre self.now.exp) (E.post self.now.exp) }
+        requires { FollowGrammar E.Fn U.Fn B.Fn I.Fn self.now }
         ensures { Reads (reads self.now.depth g.args tokens.old) result tokens.new }
     {
         tokens.expect(Kind::LeftParenthesis)?;
@@ -143,7 +144,7 @@ impl<E: Fn(Global, &mut Tokens<'_, Token>, usize) -> Result<Exp, ParseError>, U,
     /// Path ('(' list(Arg)? ')')?
     #[tactic(auto, unfolding(hs_forms::specs::Grammar::call_form, hs_forms::specs::Grammar::args))]
     pub(crate) fn call_form(&self, tokens: &mut Tokens<'_, Token>) -> Result<Exp, ParseError>
-        requires { Nests g.tables g.grammar g.RExp self.now.depth (E.pre self.now.exp) (E.post self.now.exp) }
+        requires { FollowGrammar E.Fn U.Fn B.Fn I.Fn self.now }
         ensures { Reads (reads self.now.depth g.call_form tokens.old) result tokens.new }
     {
         let path = path(self.alloc, tokens, self.depth)?;

@@ -4,13 +4,14 @@ ghost use Rattle.std.specs.Prelude.{◌≡◌, false, [], ◌∷◌};
 ghost use Rattle.hs_grammar.specs.Form.{Map};
 ghost use Rattle.hs_grammar.specs.Kinds.{starts};
 ghost use Rattle.hs_grammar.specs.Parser.{giving};
-ghost use Rattle.hs_grammar.specs.Reads.{Reads, Nests};
+ghost use Rattle.hs_grammar.specs.Reads.{Reads};
 ghost use Rattle.hs_grammar.specs.Until.{turn_of, pushed};
 ghost use Rattle.hs_forms.specs.Lexis.{lexis};
 ghost use Rattle.hs_forms.specs.Nodes.{all_arms};
 ghost use Rattle.hs_forms.specs.Blocks.{step_of};
 ghost use Rattle.hs_forms.specs.Grammar as g;
 ghost use Rattle.hs_forms.specs.Reading.{reads};
+ghost use Rattle.hs_parse_exps.specs.Follow.{FollowGrammar};
 
 use crate::node;
 use crate::rules::Rules;
@@ -19,7 +20,7 @@ use hs_grammar::cursor::Tokens;
 use hs_grammar::error::ParseError;
 use hs_grammar::loops::{Turn, repeat_until};
 use hs_parse_types::arm_pattern;
-use hs_syntax::{Arm, Block, Exp};
+use hs_syntax::{Arm, Block, Else, Exp, If};
 use sqlite_items::{Boxed, Items};
 use std::alloc::Global;
 
@@ -40,14 +41,14 @@ const ARM_KINDS: [Kind; 11] = [
 
 impl<
     E: Fn(Global, &mut Tokens<'_, Token>, usize) -> Result<Exp, ParseError>,
-    U,
+    U: Fn(Global, &mut Tokens<'_, Token>, usize) -> Result<Exp, ParseError>,
     B: Fn(Global, &mut Tokens<'_, Token>, usize) -> Result<Block, ParseError>,
-    I,
+    I: Fn(Global, &mut Tokens<'_, Token>, usize) -> Result<If, ParseError>,
 > Rules<E, U, B, I> {
     /// Block ','?, and that it need not be the last arm's value
     #[tactic(auto, unfolding(hs_forms::specs::Grammar::block_value))]
     fn block_value(&self, tokens: &mut Tokens<'_, Token>) -> Result<(Exp, bool), ParseError>
-        requires { Nests g.tables g.grammar g.RBlock self.now.depth (B.pre self.now.block) (B.post self.now.block) }
+        requires { FollowGrammar E.Fn U.Fn B.Fn I.Fn self.now }
         ensures { Reads (reads self.now.depth g.block_value tokens.old) result tokens.new }
     {
         let block = self.block(tokens)?;
@@ -58,7 +59,7 @@ impl<
     /// Exp ','?, and whether it is the last arm's value, since no ',' stands behind it
     #[tactic(auto, unfolding(hs_forms::specs::Grammar::exp_value))]
     fn exp_value(&self, tokens: &mut Tokens<'_, Token>) -> Result<(Exp, bool), ParseError>
-        requires exps { Nests g.tables g.grammar g.RExp self.now.depth (E.pre self.now.exp) (E.post self.now.exp) }
+        requires parsers { FollowGrammar E.Fn U.Fn B.Fn I.Fn self.now }
         requires no_block { starts lexis (Kind.LeftBrace ∷ []) tokens.old ≡ false }
         ensures { Reads (reads self.now.depth g.exp_value tokens.old) result tokens.new }
     {
@@ -70,8 +71,7 @@ impl<
     /// ArmPat '=>' (Block ','? | Exp ','?), and whether it is the last arm
     #[tactic(auto, unfolding(hs_forms::specs::Grammar::arm_form, hs_forms::specs::Grammar::block_value))]
     fn arm_form(&self, tokens: &mut Tokens<'_, Token>) -> Result<(Arm, bool), ParseError>
-        requires exps { Nests g.tables g.grammar g.RExp self.now.depth (E.pre self.now.exp) (E.post self.now.exp) }
-        requires blocks { Nests g.tables g.grammar g.RBlock self.now.depth (B.pre self.now.block) (B.post self.now.block) }
+        requires { FollowGrammar E.Fn U.Fn B.Fn I.Fn self.now }
         ensures { Reads (reads self.now.depth g.arm_form tokens.old) result tokens.new }
     {
         let pattern = arm_pattern(self.alloc, tokens, self.depth)?;
@@ -90,8 +90,7 @@ impl<
         tokens: &mut Tokens<'_, Token>,
         mut found: Items<Arm>,
     ) -> Result<Turn<Items<Arm>>, ParseError>
-        requires exps { Nests g.tables g.grammar g.RExp self.now.depth (E.pre self.now.exp) (E.post self.now.exp) }
-        requires blocks { Nests g.tables g.grammar g.RBlock self.now.depth (B.pre self.now.block) (B.post self.now.block) }
+        requires { FollowGrammar E.Fn U.Fn B.Fn I.Fn self.now }
         ensures { Reads (giving (turn_of pushed pushed found) (reads self.now.depth (Map step_of g.arm_form) tokens.old)) result tokens.new }
     {
         let (arm, last) = self.arm_form(tokens)?;
@@ -109,8 +108,7 @@ impl<
         tokens: &mut Tokens<'_, Token>,
         first: Arm,
     ) -> Result<Items<Arm>, ParseError>
-        requires exps { Nests g.tables g.grammar g.RExp self.now.depth (E.pre self.now.exp) (E.post self.now.exp) }
-        requires blocks { Nests g.tables g.grammar g.RBlock self.now.depth (B.pre self.now.block) (B.post self.now.block) }
+        requires { FollowGrammar E.Fn U.Fn B.Fn I.Fn self.now }
         ensures { Reads (giving (all_arms first) (reads self.now.depth g.next_arms tokens.old)) result tokens.new }
     {
         let mut found = Items::new(self.alloc);
@@ -120,8 +118,7 @@ impl<
             found,
             &ARM_KINDS,
             |found, tokens|
-                requires exps { Nests g.tables g.grammar g.RExp self.now.depth (E.pre self.now.exp) (E.post self.now.exp) }
-                requires blocks { Nests g.tables g.grammar g.RBlock self.now.depth (B.pre self.now.block) (B.post self.now.block) }
+                requires { FollowGrammar E.Fn U.Fn B.Fn I.Fn self.now }
                 ensures { Reads (giving (turn_of pushed pushed found) (reads self.entry.now.depth (Map step_of g.arm_form) tokens.old)) result tokens.new }
             { self.next_arm(tokens, found) },
         )
@@ -130,8 +127,7 @@ impl<
     /// Arm+
     #[tactic(auto, unfolding(hs_forms::specs::Grammar::arms))]
     fn arms(&self, tokens: &mut Tokens<'_, Token>) -> Result<Items<Arm>, ParseError>
-        requires exps { Nests g.tables g.grammar g.RExp self.now.depth (E.pre self.now.exp) (E.post self.now.exp) }
-        requires blocks { Nests g.tables g.grammar g.RBlock self.now.depth (B.pre self.now.block) (B.post self.now.block) }
+        requires { FollowGrammar E.Fn U.Fn B.Fn I.Fn self.now }
         ensures { Reads (reads self.now.depth g.arms tokens.old) result tokens.new }
     {
         let (first, last) = self.arm_form(tokens)?;
@@ -146,8 +142,7 @@ impl<
     /// 'match' Exp '{' Arm+ '}'
     #[tactic(auto, unfolding(hs_forms::specs::Grammar::match_form))]
     fn match_form(&self, tokens: &mut Tokens<'_, Token>) -> Result<Exp, ParseError>
-        requires exps { Nests g.tables g.grammar g.RExp self.now.depth (E.pre self.now.exp) (E.post self.now.exp) }
-        requires blocks { Nests g.tables g.grammar g.RBlock self.now.depth (B.pre self.now.block) (B.post self.now.block) }
+        requires { FollowGrammar E.Fn U.Fn B.Fn I.Fn self.now }
         ensures { Reads (reads self.now.depth g.match_form tokens.old) result tokens.new }
     {
         let word = at(tokens, Kind::Match)?;
@@ -161,29 +156,28 @@ impl<
 
 impl<
     E: Fn(Global, &mut Tokens<'_, Token>, usize) -> Result<Exp, ParseError>,
-    U,
+    U: Fn(Global, &mut Tokens<'_, Token>, usize) -> Result<Exp, ParseError>,
     B: Fn(Global, &mut Tokens<'_, Token>, usize) -> Result<Block, ParseError>,
-    I: Fn(Global, &mut Tokens<'_, Token>, usize) -> Result<Exp, ParseError>,
+    I: Fn(Global, &mut Tokens<'_, Token>, usize) -> Result<If, ParseError>,
 > Rules<E, U, B, I> {
     /// If | Block, behind 'else'
     #[tactic(auto, unfolding(hs_forms::specs::Grammar::else_branch))]
-    fn else_branch(&self, tokens: &mut Tokens<'_, Token>) -> Result<Exp, ParseError>
-        requires blocks { Nests g.tables g.grammar g.RBlock self.now.depth (B.pre self.now.block) (B.post self.now.block) }
-        requires others { Nests g.tables g.grammar g.RIf self.now.depth (I.pre self.now.other) (I.post self.now.other) }
+    fn else_branch(&self, tokens: &mut Tokens<'_, Token>) -> Result<Else, ParseError>
+        requires { FollowGrammar E.Fn U.Fn B.Fn I.Fn self.now }
         ensures { Reads (reads self.now.depth g.else_branch tokens.old) result tokens.new }
     {
         if tokens.is_at(Kind::If) {
-            return (self.other)(self.alloc, tokens, self.depth);
+            let next = (self.other)(self.alloc, tokens, self.depth)?;
+            return Ok(Else::Chain(Boxed::new(self.alloc, next)?));
         }
         let block = self.block(tokens)?;
-        Ok(Exp::Block(Boxed::new(self.alloc, block)?))
+        Ok(Else::Last(Boxed::new(self.alloc, block)?))
     }
 
     /// ('else' (If | Block))?
     #[tactic(auto, unfolding(hs_forms::specs::Grammar::else_form))]
-    fn else_form(&self, tokens: &mut Tokens<'_, Token>) -> Result<Option<Exp>, ParseError>
-        requires blocks { Nests g.tables g.grammar g.RBlock self.now.depth (B.pre self.now.block) (B.post self.now.block) }
-        requires others { Nests g.tables g.grammar g.RIf self.now.depth (I.pre self.now.other) (I.post self.now.other) }
+    fn else_form(&self, tokens: &mut Tokens<'_, Token>) -> Result<Option<Else>, ParseError>
+        requires { FollowGrammar E.Fn U.Fn B.Fn I.Fn self.now }
         ensures { Reads (reads self.now.depth g.else_form tokens.old) result tokens.new }
     {
         if !tokens.eat(Kind::Else) {
@@ -194,29 +188,26 @@ impl<
 
     /// If: 'if' Exp Block ('else' (If | Block))?
     #[tactic(auto, unfolding(hs_forms::specs::Grammar::if_form))]
-    pub fn if_form(&self, tokens: &mut Tokens<'_, Token>) -> Result<Exp, ParseError>
-        requires exps { Nests g.tables g.grammar g.RExp self.now.depth (E.pre self.now.exp) (E.post self.now.exp) }
-        requires blocks { Nests g.tables g.grammar g.RBlock self.now.depth (B.pre self.now.block) (B.post self.now.block) }
-        requires others { Nests g.tables g.grammar g.RIf self.now.depth (I.pre self.now.other) (I.post self.now.other) }
+    pub fn if_form(&self, tokens: &mut Tokens<'_, Token>) -> Result<If, ParseError>
+        requires { FollowGrammar E.Fn U.Fn B.Fn I.Fn self.now }
         ensures { Reads (reads self.now.depth g.if_form tokens.old) result tokens.new }
     {
         let word = at(tokens, Kind::If)?;
-        let test = self.expression(tokens)?;
+        let condition = self.expression(tokens)?;
         let then = self.block(tokens)?;
-        let other = self.else_form(tokens)?;
-        Ok(node::choice(self.alloc, word, test, then, other)?)
+        let otherwise = self.else_form(tokens)?;
+        Ok(node::choice(word, condition, then, otherwise))
     }
 
     /// If | Match | Block
     #[tactic(auto, unfolding(hs_forms::specs::Grammar::alone, hs_forms::specs::Grammar::if_form, hs_forms::specs::Grammar::match_form))]
     pub fn alone(&self, tokens: &mut Tokens<'_, Token>) -> Result<Exp, ParseError>
-        requires exps { Nests g.tables g.grammar g.RExp self.now.depth (E.pre self.now.exp) (E.post self.now.exp) }
-        requires blocks { Nests g.tables g.grammar g.RBlock self.now.depth (B.pre self.now.block) (B.post self.now.block) }
-        requires others { Nests g.tables g.grammar g.RIf self.now.depth (I.pre self.now.other) (I.post self.now.other) }
+        requires { FollowGrammar E.Fn U.Fn B.Fn I.Fn self.now }
         ensures { Reads (reads self.now.depth g.alone tokens.old) result tokens.new }
     {
         if tokens.is_at(Kind::If) {
-            return self.if_form(tokens);
+            let branches = self.if_form(tokens)?;
+            return Ok(Exp::If(Boxed::new(self.alloc, branches)?));
         }
         if tokens.is_at(Kind::Match) {
             return self.match_form(tokens);

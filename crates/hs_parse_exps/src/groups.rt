@@ -1,24 +1,25 @@
 //! What stands in parentheses.
 
 ghost use Rattle.hs_grammar.specs.Parser.{giving};
-ghost use Rattle.hs_grammar.specs.Reads.{Reads, Nests};
+ghost use Rattle.hs_grammar.specs.Reads.{Reads};
 ghost use Rattle.hs_forms.specs.Grammar as g;
 ghost use Rattle.hs_forms.specs.Reading.{reads};
+ghost use Rattle.hs_parse_exps.specs.Follow.{FollowGrammar};
 
 use crate::node;
 use crate::rules::Rules;
 use hs_forms::{Kind, Token, across, at};
 use hs_grammar::cursor::Tokens;
 use hs_grammar::error::ParseError;
-use hs_syntax::{Exp, Span};
+use hs_syntax::{Block, Exp, If, Span};
 use std::alloc::Global;
 
-impl<E: Fn(Global, &mut Tokens<'_, Token>, usize) -> Result<Exp, ParseError>, U, B, I> Rules<
-    E,
-    U,
-    B,
-    I,
-> {
+impl<
+    E: Fn(Global, &mut Tokens<'_, Token>, usize) -> Result<Exp, ParseError>,
+    U: Fn(Global, &mut Tokens<'_, Token>, usize) -> Result<Exp, ParseError>,
+    B: Fn(Global, &mut Tokens<'_, Token>, usize) -> Result<Block, ParseError>,
+    I: Fn(Global, &mut Tokens<'_, Token>, usize) -> Result<If, ParseError>,
+> Rules<E, U, B, I> {
     /// ')' | ',' list(Exp) ')', behind a '(' and an expression
     #[tactic(auto, unfolding(hs_forms::specs::Grammar::behind_first))]
     fn behind_first(
@@ -27,7 +28,7 @@ impl<E: Fn(Global, &mut Tokens<'_, Token>, usize) -> Result<Exp, ParseError>, U,
         left: Span,
         first: Exp,
     ) -> Result<Exp, ParseError>
-        requires { Nests g.tables g.grammar g.RExp self.now.depth (E.pre self.now.exp) (E.post self.now.exp) }
+        requires { FollowGrammar E.Fn U.Fn B.Fn I.Fn self.now }
         ensures { Reads (giving (λ f. f left first) (reads self.now.depth g.behind_first tokens.old)) result tokens.new }
     {
         if tokens.is_at(Kind::RightParenthesis) {
@@ -43,7 +44,7 @@ impl<E: Fn(Global, &mut Tokens<'_, Token>, usize) -> Result<Exp, ParseError>, U,
     /// What stands behind '('.
     #[tactic(auto, unfolding(hs_forms::specs::Grammar::grouped_rest))]
     fn grouped_rest(&self, tokens: &mut Tokens<'_, Token>, left: Span) -> Result<Exp, ParseError>
-        requires { Nests g.tables g.grammar g.RExp self.now.depth (E.pre self.now.exp) (E.post self.now.exp) }
+        requires { FollowGrammar E.Fn U.Fn B.Fn I.Fn self.now }
         ensures { Reads (giving (λ f. f left) (reads self.now.depth g.grouped_rest tokens.old)) result tokens.new }
     {
         if tokens.is_at(Kind::RightParenthesis) {
@@ -57,7 +58,7 @@ impl<E: Fn(Global, &mut Tokens<'_, Token>, usize) -> Result<Exp, ParseError>, U,
     /// '(' ')' | '(' Exp ')' | '(' Exp ',' list(Exp) ')'
     #[tactic(auto, unfolding(hs_forms::specs::Grammar::grouped))]
     pub(crate) fn grouped(&self, tokens: &mut Tokens<'_, Token>) -> Result<Exp, ParseError>
-        requires { Nests g.tables g.grammar g.RExp self.now.depth (E.pre self.now.exp) (E.post self.now.exp) }
+        requires { FollowGrammar E.Fn U.Fn B.Fn I.Fn self.now }
         ensures { Reads (reads self.now.depth g.grouped tokens.old) result tokens.new }
     {
         let left = at(tokens, Kind::LeftParenthesis)?;

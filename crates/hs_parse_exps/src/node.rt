@@ -4,7 +4,7 @@ ghost use Rattle.std.specs.Prelude.{◌≡◌, IfOk};
 ghost use Rattle.hs_forms.specs.Nodes as nodes;
 
 use hs_forms::{Kind, Token, across};
-use hs_syntax::{Arg, Arm, ArmPat, Block, Exp, Path, Postfix, PrefixOp, Span};
+use hs_syntax::{Arg, Arm, ArmPat, Block, Else, Exp, If, Path, Postfix, PrefixOp, Span};
 use sqlite_items::{Boxed, Items};
 use std::alloc::{AllocError, Global};
 
@@ -46,24 +46,19 @@ pub(crate) fn tuple(
 
 /// An `if`, and what stands behind its `else`.
 #[tactic(auto, unfolding(hs_syntax::specs::Spans::span_of_block))]
-pub(crate) fn choice(
-    alloc: Global,
-    word: Span,
-    test: Exp,
-    then: Block,
-    other: Option<Exp>,
-) -> Result<Exp, AllocError>
-    ensures { IfOk result (λ e. e ≡ nodes.if_of word test then other) }
+pub(crate) fn choice(word: Span, condition: Exp, then: Block, otherwise: Option<Else>) -> If
+    ensures { result ≡ nodes.if_of word condition then otherwise }
 {
-    let Some(other) = other else {
-        let span = across(word, then.span);
-        let then = Boxed::new(alloc, then)?;
-        return Ok(Exp::If(span, Boxed::new(alloc, test)?, then, None));
+    let end = match &otherwise {
+        Some(branch) => branch.span(),
+        None => then.span,
     };
-    let span = across(word, other.span());
-    let then = Boxed::new(alloc, then)?;
-    let other = Boxed::new(alloc, other)?;
-    Ok(Exp::If(span, Boxed::new(alloc, test)?, then, Some(other)))
+    If {
+        span: across(word, end),
+        condition,
+        then,
+        otherwise,
+    }
 }
 
 /// A `match`.

@@ -1,11 +1,12 @@
 //! Operands: literals, calls and what stands in brackets, with steps behind them, prefixes before them, and `as`.
 
 ghost use Rattle.hs_grammar.specs.Parser.{giving};
-ghost use Rattle.hs_grammar.specs.Reads.{Reads, Nests};
+ghost use Rattle.hs_grammar.specs.Reads.{Reads};
 ghost use Rattle.hs_grammar.specs.Until.{pushed};
 ghost use Rattle.hs_grammar.specs.Words.{star};
 ghost use Rattle.hs_forms.specs.Grammar as g;
 ghost use Rattle.hs_forms.specs.Reading.{reads};
+ghost use Rattle.hs_parse_exps.specs.Follow.{FollowGrammar};
 ghost use Rattle.hs_parse_exps.specs.Parts.{as_name};
 
 use crate::node;
@@ -14,7 +15,7 @@ use hs_forms::{Kind, Token, at, int, is_at_name, name};
 use hs_grammar::cursor::Tokens;
 use hs_grammar::error::ParseError;
 use hs_grammar::loops::repeat;
-use hs_syntax::{Block, Exp, Postfix, Span};
+use hs_syntax::{Block, Exp, If, Span};
 use sqlite_items::Items;
 use std::alloc::Global;
 
@@ -70,14 +71,12 @@ impl<
     E: Fn(Global, &mut Tokens<'_, Token>, usize) -> Result<Exp, ParseError>,
     U: Fn(Global, &mut Tokens<'_, Token>, usize) -> Result<Exp, ParseError>,
     B: Fn(Global, &mut Tokens<'_, Token>, usize) -> Result<Block, ParseError>,
-    I: Fn(Global, &mut Tokens<'_, Token>, usize) -> Result<Exp, ParseError>,
+    I: Fn(Global, &mut Tokens<'_, Token>, usize) -> Result<If, ParseError>,
 > Rules<E, U, B, I> {
     /// Prim: a literal, what stands in parentheses, a path or a call, or an `if`, a `match` or a block.
     #[tactic(auto, unfolding(hs_forms::specs::Grammar::prim, hs_forms::specs::Grammar::literal, hs_forms::specs::Grammar::int, hs_forms::specs::Grammar::grouped, hs_forms::specs::Grammar::call_form, hs_forms::specs::Grammar::path_form, hs_forms::specs::Grammar::name))]
     fn prim(&self, tokens: &mut Tokens<'_, Token>) -> Result<Exp, ParseError>
-        requires exps { Nests g.tables g.grammar g.RExp self.now.depth (E.pre self.now.exp) (E.post self.now.exp) }
-        requires blocks { Nests g.tables g.grammar g.RBlock self.now.depth (B.pre self.now.block) (B.post self.now.block) }
-        requires others { Nests g.tables g.grammar g.RIf self.now.depth (I.pre self.now.other) (I.post self.now.other) }
+        requires { FollowGrammar E.Fn U.Fn B.Fn I.Fn self.now }
         ensures { Reads (reads self.now.depth g.prim tokens.old) result tokens.new }
     {
         if tokens.is_at_any(&LITERALS) {
@@ -95,9 +94,7 @@ impl<
     /// Post: such a part, and any number of steps behind it.
     #[tactic(auto, unfolding(hs_forms::specs::Grammar::post))]
     fn post(&self, tokens: &mut Tokens<'_, Token>) -> Result<Exp, ParseError>
-        requires exps { Nests g.tables g.grammar g.RExp self.now.depth (E.pre self.now.exp) (E.post self.now.exp) }
-        requires blocks { Nests g.tables g.grammar g.RBlock self.now.depth (B.pre self.now.block) (B.post self.now.block) }
-        requires others { Nests g.tables g.grammar g.RIf self.now.depth (I.pre self.now.other) (I.post self.now.other) }
+        requires { FollowGrammar E.Fn U.Fn B.Fn I.Fn self.now }
         ensures { Reads (reads self.now.depth g.post tokens.old) result tokens.new }
     {
         let first = self.prim(tokens)?;
@@ -108,10 +105,7 @@ impl<
     /// Unary: an operand with a prefix before it, or with steps behind it.
     #[tactic(auto, unfolding(hs_forms::specs::Grammar::unary))]
     pub fn unary(&self, tokens: &mut Tokens<'_, Token>) -> Result<Exp, ParseError>
-        requires exps { Nests g.tables g.grammar g.RExp self.now.depth (E.pre self.now.exp) (E.post self.now.exp) }
-        requires unaries { Nests g.tables g.grammar g.RUnary self.now.depth (U.pre self.now.unary) (U.post self.now.unary) }
-        requires blocks { Nests g.tables g.grammar g.RBlock self.now.depth (B.pre self.now.block) (B.post self.now.block) }
-        requires others { Nests g.tables g.grammar g.RIf self.now.depth (I.pre self.now.other) (I.post self.now.other) }
+        requires { FollowGrammar E.Fn U.Fn B.Fn I.Fn self.now }
         ensures { Reads (reads self.now.depth g.unary tokens.old) result tokens.new }
     {
         if tokens.is_at_any(&PREFIXES) {
@@ -125,10 +119,7 @@ impl<
     /// Cast: such an operand, and any number of 'as' NAME behind it.
     #[tactic(auto, unfolding(hs_forms::specs::Grammar::cast, hs_forms::specs::Grammar::name))]
     pub fn cast(&self, tokens: &mut Tokens<'_, Token>) -> Result<Exp, ParseError>
-        requires exps { Nests g.tables g.grammar g.RExp self.now.depth (E.pre self.now.exp) (E.post self.now.exp) }
-        requires unaries { Nests g.tables g.grammar g.RUnary self.now.depth (U.pre self.now.unary) (U.post self.now.unary) }
-        requires blocks { Nests g.tables g.grammar g.RBlock self.now.depth (B.pre self.now.block) (B.post self.now.block) }
-        requires others { Nests g.tables g.grammar g.RIf self.now.depth (I.pre self.now.other) (I.post self.now.other) }
+        requires { FollowGrammar E.Fn U.Fn B.Fn I.Fn self.now }
         ensures { Reads (reads self.now.depth g.cast tokens.old) result tokens.new }
     {
         let inner = self.unary(tokens)?;

@@ -1,17 +1,18 @@
 //! The parsers of the rules that lead back to themselves.
 
-ghost use Rattle.hs_grammar.specs.Reads.{Reads, Nests};
+ghost use Rattle.hs_grammar.specs.Reads.{Reads};
 ghost use Rattle.hs_forms.specs.Grammar as g;
 ghost use Rattle.hs_forms.specs.Reading.{reads};
+ghost use Rattle.hs_parse_exps.specs.Follow.{FollowGrammar};
 
 use hs_forms::Token;
 use hs_grammar::cursor::Tokens;
 use hs_grammar::error::ParseError;
-use hs_syntax::{Block, Exp};
+use hs_syntax::{Block, Exp, If};
 use std::alloc::Global;
 
 /// The parsers of expressions, of operands with prefixes, of blocks, and of an `if` behind `else`, over which each form below
-/// the operators is read.
+/// the operators is read. Each form requires that they follow the grammar.
 ///
 /// Each method answers `Syntax` where the first of the tokens that are left cannot stand there, `TooDeep` where rules nest
 /// deeper than they may, and `NoMemory` where memory runs out.
@@ -31,30 +32,23 @@ pub struct Rules<E, U, B, I> {
     pub other: I,
 }
 
-impl<E: Fn(Global, &mut Tokens<'_, Token>, usize) -> Result<Exp, ParseError>, U, B, I> Rules<
-    E,
-    U,
-    B,
-    I,
-> {
+impl<
+    E: Fn(Global, &mut Tokens<'_, Token>, usize) -> Result<Exp, ParseError>,
+    U: Fn(Global, &mut Tokens<'_, Token>, usize) -> Result<Exp, ParseError>,
+    B: Fn(Global, &mut Tokens<'_, Token>, usize) -> Result<Block, ParseError>,
+    I: Fn(Global, &mut Tokens<'_, Token>, usize) -> Result<If, ParseError>,
+> Rules<E, U, B, I> {
     /// Exp: what the parser of expressions reads.
     pub fn expression(&self, tokens: &mut Tokens<'_, Token>) -> Result<Exp, ParseError>
-        requires { Nests g.tables g.grammar g.RExp self.now.depth (E.pre self.now.exp) (E.post self.now.exp) }
+        requires { FollowGrammar E.Fn U.Fn B.Fn I.Fn self.now }
         ensures { Reads (reads self.now.depth g.expression tokens.old) result tokens.new }
     {
         (self.exp)(self.alloc, tokens, self.depth)
     }
-}
 
-impl<E, U, B: Fn(Global, &mut Tokens<'_, Token>, usize) -> Result<Block, ParseError>, I> Rules<
-    E,
-    U,
-    B,
-    I,
-> {
     /// Block: what the parser of blocks reads.
     pub fn block(&self, tokens: &mut Tokens<'_, Token>) -> Result<Block, ParseError>
-        requires { Nests g.tables g.grammar g.RBlock self.now.depth (B.pre self.now.block) (B.post self.now.block) }
+        requires { FollowGrammar E.Fn U.Fn B.Fn I.Fn self.now }
         ensures { Reads (reads self.now.depth g.block tokens.old) result tokens.new }
     {
         (self.block)(self.alloc, tokens, self.depth)

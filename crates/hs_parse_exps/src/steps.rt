@@ -1,31 +1,32 @@
 //! What stands behind an operand.
 
 ghost use Rattle.hs_grammar.specs.Parser.{giving};
-ghost use Rattle.hs_grammar.specs.Reads.{Reads, Nests};
+ghost use Rattle.hs_grammar.specs.Reads.{Reads};
 ghost use Rattle.hs_grammar.specs.Until.{pushed};
 ghost use Rattle.hs_grammar.specs.Words.{star};
 ghost use Rattle.hs_forms.specs.Grammar as g;
 ghost use Rattle.hs_forms.specs.Reading.{reads};
+ghost use Rattle.hs_parse_exps.specs.Follow.{FollowGrammar};
 
 use crate::rules::Rules;
 use hs_forms::{Kind, Token, across, at, name};
 use hs_grammar::cursor::Tokens;
 use hs_grammar::error::ParseError;
 use hs_grammar::loops::repeat;
-use hs_syntax::{Exp, Postfix, Span};
+use hs_syntax::{Block, Exp, If, Postfix, Span, Step};
 use sqlite_items::Items;
 use std::alloc::Global;
 
-impl<E: Fn(Global, &mut Tokens<'_, Token>, usize) -> Result<Exp, ParseError>, U, B, I> Rules<
-    E,
-    U,
-    B,
-    I,
-> {
+impl<
+    E: Fn(Global, &mut Tokens<'_, Token>, usize) -> Result<Exp, ParseError>,
+    U: Fn(Global, &mut Tokens<'_, Token>, usize) -> Result<Exp, ParseError>,
+    B: Fn(Global, &mut Tokens<'_, Token>, usize) -> Result<Block, ParseError>,
+    I: Fn(Global, &mut Tokens<'_, Token>, usize) -> Result<If, ParseError>,
+> Rules<E, U, B, I> {
     /// NAME '(' list(Arg)? ')', behind a '.'
     #[tactic(auto, unfolding(hs_forms::specs::Grammar::method, hs_forms::specs::Grammar::name))]
     fn method(&self, tokens: &mut Tokens<'_, Token>, dot: Span) -> Result<Postfix, ParseError>
-        requires { Nests g.tables g.grammar g.RExp self.now.depth (E.pre self.now.exp) (E.post self.now.exp) }
+        requires { FollowGrammar E.Fn U.Fn B.Fn I.Fn self.now }
         ensures { Reads (giving (λ f. f dot) (reads self.now.depth g.method tokens.old)) result tokens.new }
     {
         let name = name(tokens)?;
@@ -36,32 +37,32 @@ impl<E: Fn(Global, &mut Tokens<'_, Token>, usize) -> Result<Exp, ParseError>, U,
     /// An integer of decimal digits alone, or a call of a method, behind a '.'.
     #[tactic(auto, unfolding(hs_forms::specs::Grammar::behind_dot))]
     fn behind_dot(&self, tokens: &mut Tokens<'_, Token>, dot: Span) -> Result<Postfix, ParseError>
-        requires { Nests g.tables g.grammar g.RExp self.now.depth (E.pre self.now.exp) (E.post self.now.exp) }
+        requires { FollowGrammar E.Fn U.Fn B.Fn I.Fn self.now }
         ensures { Reads (giving (λ f. f dot) (reads self.now.depth g.behind_dot tokens.old)) result tokens.new }
     {
         if tokens.is_at(Kind::Digits) {
             let part = tokens.expect(Kind::Digits)?.int();
-            return Ok(Postfix::Part(across(dot, part.span), part));
+            return Ok(Postfix::Step(Step::Part(across(dot, part.span), part)));
         }
         self.method(tokens, dot)
     }
 
     /// '[' Exp ']'
     #[tactic(auto, unfolding(hs_forms::specs::Grammar::index))]
-    fn index(&self, tokens: &mut Tokens<'_, Token>) -> Result<Postfix, ParseError>
-        requires { Nests g.tables g.grammar g.RExp self.now.depth (E.pre self.now.exp) (E.post self.now.exp) }
+    fn index(&self, tokens: &mut Tokens<'_, Token>) -> Result<Step, ParseError>
+        requires { FollowGrammar E.Fn U.Fn B.Fn I.Fn self.now }
         ensures { Reads (reads self.now.depth g.index tokens.old) result tokens.new }
     {
         let left = at(tokens, Kind::LeftBracket)?;
         let index = self.expression(tokens)?;
         let right = at(tokens, Kind::RightBracket)?;
-        Ok(Postfix::Index(across(left, right), index))
+        Ok(Step::Index(across(left, right), index))
     }
 
     /// '?' | '.' NAME '(' list(Arg)? ')' | '.' INT | '[' Exp ']'
     #[tactic(auto, unfolding(hs_forms::specs::Grammar::postfix_form))]
     fn postfix_form(&self, tokens: &mut Tokens<'_, Token>) -> Result<Postfix, ParseError>
-        requires { Nests g.tables g.grammar g.RExp self.now.depth (E.pre self.now.exp) (E.post self.now.exp) }
+        requires { FollowGrammar E.Fn U.Fn B.Fn I.Fn self.now }
         ensures { Reads (reads self.now.depth g.postfix_form tokens.old) result tokens.new }
     {
         if tokens.is_at(Kind::Question) {
@@ -71,12 +72,12 @@ impl<E: Fn(Global, &mut Tokens<'_, Token>, usize) -> Result<Exp, ParseError>, U,
             let dot = at(tokens, Kind::Dot)?;
             return self.behind_dot(tokens, dot);
         }
-        self.index(tokens)
+        Ok(Postfix::Step(self.index(tokens)?))
     }
 
     /// Any number of steps.
     pub(crate) fn steps(&self, tokens: &mut Tokens<'_, Token>) -> Result<Items<Postfix>, ParseError>
-        requires { Nests g.tables g.grammar g.RExp self.now.depth (E.pre self.now.exp) (E.post self.now.exp) }
+        requires { FollowGrammar E.Fn U.Fn B.Fn I.Fn self.now }
         ensures { Reads (reads self.now.depth (star g.postfix_form) tokens.old) result tokens.new }
     {
         let start = Items::new(self.alloc);
@@ -85,7 +86,7 @@ impl<E: Fn(Global, &mut Tokens<'_, Token>, usize) -> Result<Exp, ParseError>, U,
             start,
             &[Kind::Question, Kind::Dot, Kind::LeftBracket],
             |mut steps, tokens|
-                requires { Nests g.tables g.grammar g.RExp self.now.depth (E.pre self.now.exp) (E.post self.now.exp) }
+                requires { FollowGrammar E.Fn U.Fn B.Fn I.Fn self.now }
                 ensures { Reads (giving (pushed steps) (reads self.entry.now.depth g.postfix_form tokens.old)) result tokens.new }
             {
                 steps.push(self.postfix_form(tokens)?)?;

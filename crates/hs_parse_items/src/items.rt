@@ -3,7 +3,7 @@
 ghost use Rattle.hs_grammar.specs.Parser.{giving};
 ghost use Rattle.hs_grammar.specs.Reads.{Reads};
 ghost use Rattle.hs_grammar.specs.Until.{turn_of, pushed, kept};
-ghost use Rattle.hs_grammar.specs.Words.{list_read, list_turn, star};
+ghost use Rattle.hs_grammar.specs.Words.{list_read, list_turn};
 ghost use Rattle.hs_forms.specs.Grammar as g;
 ghost use Rattle.hs_forms.specs.Reading.{reads};
 ghost use Rattle.hs_parse_items.specs.Pieces.{derived_data};
@@ -14,7 +14,7 @@ use hs_forms::{Kind, Token, across, at, is_at_name, name};
 use hs_grammar::cursor::Tokens;
 use hs_grammar::error::ParseError;
 use hs_grammar::loops::{Turn, repeat, repeat_until};
-use hs_syntax::{File, Item, ItemKind, Span};
+use hs_syntax::{Item, ItemKind, Span};
 use sqlite_items::Items;
 use std::alloc::Global;
 
@@ -163,31 +163,37 @@ fn item_form(
     plain_item(alloc, tokens, depth)
 }
 
-/// Item*
-fn all_items(
+/// What items begin with.
+const ITEM_KINDS: [Kind; 11] = [
+    Kind::Hash,
+    Kind::Pub,
+    Kind::Use,
+    Kind::Array,
+    Kind::Bytes,
+    Kind::NatMod,
+    Kind::Const,
+    Kind::Type,
+    Kind::Fn,
+    Kind::Struct,
+    Kind::Enum,
+];
+
+/// The items of a file, where rules inside it nest no deeper than `depth`. It ends in front of the first token that begins no
+/// item.
+///
+/// `Syntax`: the first of the tokens that are left cannot stand there, or none is left and an item is unfinished.
+/// `TooDeep`: rules nest deeper. `NoMemory`: want of memory.
+pub fn file(
     alloc: Global,
     tokens: &mut Tokens<'_, Token>,
     depth: usize,
 ) -> Result<Items<Item>, ParseError>
-    ensures { Reads (reads depth (star g.item_form) tokens.old) result tokens.new }
+    ensures { Reads (reads depth g.file_form tokens.old) result tokens.new }
 {
-    let begins = [
-        Kind::Hash,
-        Kind::Pub,
-        Kind::Use,
-        Kind::Array,
-        Kind::Bytes,
-        Kind::NatMod,
-        Kind::Const,
-        Kind::Type,
-        Kind::Fn,
-        Kind::Struct,
-        Kind::Enum,
-    ];
     repeat(
         tokens,
         Items::new(alloc),
-        &begins,
+        &ITEM_KINDS,
         |mut items, tokens|
             ensures { Reads (giving (pushed items) (reads depth g.item_form tokens.old)) result tokens.new }
         {
@@ -195,16 +201,4 @@ fn all_items(
             Ok(items)
         },
     )
-}
-
-/// File, where rules inside it nest no deeper than `depth`. It ends in front of the first token that begins no item.
-///
-/// `Syntax`: the first of the tokens that are left cannot stand there, or none is left and an item is unfinished.
-/// `TooDeep`: rules nest deeper. `NoMemory`: want of memory.
-#[tactic(auto, unfolding(hs_forms::specs::Grammar::file_form))]
-pub fn file(alloc: Global, tokens: &mut Tokens<'_, Token>, depth: usize) -> Result<File, ParseError>
-    ensures { Reads (reads depth g.file_form tokens.old) result tokens.new }
-{
-    let items = all_items(alloc, tokens, depth)?;
-    Ok(File { items })
 }

@@ -11,7 +11,7 @@ ghost use Rattle.hs_forms.specs.Lexis.{lexis};
 ghost use Rattle.hs_forms.specs.Grammar as g;
 ghost use Rattle.hs_forms.specs.Reading.{reads};
 
-use hs_forms::{Kind, Token, across, at, name};
+use hs_forms::{Kind, Token, across, at, is_at_name, name};
 use hs_grammar::cursor::Tokens;
 use hs_grammar::error::ParseError;
 use hs_grammar::loops::{Turn, repeat_until};
@@ -109,19 +109,7 @@ fn param(alloc: Global, tokens: &mut Tokens<'_, Token>, depth: usize) -> Result<
 fn is_at_param(tokens: &Tokens<'_, Token>) -> bool
     ensures { result ≡ starts lexis (begin g.tables g.param) tokens.now }
 {
-    tokens.is_at_any(&[
-        Kind::Mut,
-        Kind::Name,
-        Kind::Array,
-        Kind::Bytes,
-        Kind::NatMod,
-        Kind::HacspecLib,
-        Kind::Derive,
-        Kind::TypeName,
-        Kind::TypeOfCanvas,
-        Kind::BitSizeOfField,
-        Kind::ModuloValue,
-    ])
+    tokens.is_at(Kind::Mut) || is_at_name(tokens)
 }
 
 /// list(Param)

@@ -1,6 +1,7 @@
 //! The parser of types and patterns: one function for each form of the grammar.
 #![tactic(auto)]
 
+mod items;
 mod pattern_forms;
 #[cfg(test)]
 mod tests;

@@ -1,22 +1,24 @@
 //! Patterns.
 
-ghost use Rattle.std.specs.Prelude.{◌≡◌, ◌∷◌, [], IfOk};
+ghost use Rattle.std.specs.Prelude.{◌≡◌};
 ghost use Rattle.hs_grammar.specs.Kinds.{starts};
 ghost use Rattle.hs_grammar.specs.Parser.{giving};
 ghost use Rattle.hs_grammar.specs.Words.{optional, list_read, list_turn};
-ghost use Rattle.hs_grammar.specs.Reads.{Reads, Nests};
+ghost use Rattle.hs_grammar.specs.Reads.{Reads};
 ghost use Rattle.hs_grammar.specs.Until.{turn_of, pushed, kept};
 ghost use Rattle.hs_forms.specs.Lexis.{lexis};
 ghost use Rattle.hs_forms.specs.Grammar as g;
 ghost use Rattle.hs_forms.specs.Reading.{reads};
+ghost use Rattle.hs_parse_types.specs.Follow.{FollowPatterns};
 
+use crate::items::alone;
 use hs_forms::{Kind, Token, across, at, is_at_name, name};
 use hs_grammar::cursor::Tokens;
 use hs_grammar::error::ParseError;
 use hs_grammar::loops::{Turn, repeat_until};
 use hs_syntax::{ArmPat, Pat, Span};
 use sqlite_items::Items;
-use std::alloc::{AllocError, Global};
+use std::alloc::Global;
 
 /// Whether the next token can begin a pattern.
 fn is_at_pattern(tokens: &Tokens<'_, Token>) -> bool
@@ -25,16 +27,8 @@ fn is_at_pattern(tokens: &Tokens<'_, Token>) -> bool
     tokens.is_at_any(&[Kind::Mut, Kind::Underscore, Kind::LeftParenthesis]) || is_at_name(tokens)
 }
 
-/// The list of this pattern alone.
-fn alone(alloc: Global, first: Pat) -> Result<Items<Pat>, AllocError>
-    ensures { IfOk result (λ patterns. patterns ≡ first ∷ []) }
-{
-    let mut patterns = Items::new(alloc);
-    patterns.push(first)?;
-    Ok(patterns)
-}
-
-/// The forms of patterns. The rule that they refer to is a function value, which gets the depth.
+/// The parser of patterns, over which each form of a pattern is read. It gets the depth, and each form requires that it
+/// follows the grammar.
 #[derive(Clone, Copy)]
 pub struct PatternRules<P> {
     alloc: Global,
@@ -46,7 +40,7 @@ pub struct PatternRules<P> {
 impl<P: Fn(Global, &mut Tokens<'_, Token>, usize) -> Result<Pat, ParseError>> PatternRules<P> {
     /// Pat
     fn pattern(&self, tokens: &mut Tokens<'_, Token>) -> Result<Pat, ParseError>
-        requires { Nests g.tables g.grammar g.RPat self.now.depth (P.pre self.now.pattern) (P.post self.now.pattern) }
+        requires { FollowPatterns P.Fn self.now }
         ensures { Reads (reads self.now.depth g.pattern tokens.old) result tokens.new }
     {
         (self.pattern)(self.alloc, tokens, self.depth)
@@ -54,7 +48,7 @@ impl<P: Fn(Global, &mut Tokens<'_, Token>, usize) -> Result<Pat, ParseError>> Pa
 
     /// list(Pat)
     fn list(&self, tokens: &mut Tokens<'_, Token>) -> Result<Items<Pat>, ParseError>
-        requires { Nests g.tables g.grammar g.RPat self.now.depth (P.pre self.now.pattern) (P.post self.now.pattern) }
+        requires { FollowPatterns P.Fn self.now }
         ensures { Reads (reads self.now.depth (list_read g.comma g.pattern) tokens.old) result tokens.new }
     {
         let first = alone(self.alloc, self.pattern(tokens)?)?;
@@ -63,7 +57,7 @@ impl<P: Fn(Global, &mut Tokens<'_, Token>, usize) -> Result<Pat, ParseError>> Pa
             first,
             &[Kind::Comma],
             |mut patterns, tokens|
-                requires { Nests g.tables g.grammar g.RPat self.now.depth (P.pre self.now.pattern) (P.post self.now.pattern) }
+                requires { FollowPatterns P.Fn self.now }
                 ensures { Reads (giving (turn_of pushed kept patterns) (reads self.entry.now.depth (list_turn g.comma g.pattern) tokens.old)) result tokens.new }
             {
                 tokens.expect(Kind::Comma)?;
@@ -80,7 +74,7 @@ impl<P: Fn(Global, &mut Tokens<'_, Token>, usize) -> Result<Pat, ParseError>> Pa
     /// '(' list(Pat) ')'
     #[tactic(auto, unfolding(hs_forms::specs::Grammar::patterns))]
     fn patterns(&self, tokens: &mut Tokens<'_, Token>) -> Result<(Items<Pat>, Span), ParseError>
-        requires { Nests g.tables g.grammar g.RPat self.now.depth (P.pre self.now.pattern) (P.post self.now.pattern) }
+        requires { FollowPatterns P.Fn self.now }
         ensures { Reads (reads self.now.depth g.patterns tokens.old) result tokens.new }
     {
         tokens.expect(Kind::LeftParenthesis)?;
@@ -95,7 +89,7 @@ impl<P: Fn(Global, &mut Tokens<'_, Token>, usize) -> Result<Pat, ParseError>> Pa
         &self,
         tokens: &mut Tokens<'_, Token>,
     ) -> Result<Option<(Items<Pat>, Span)>, ParseError>
-        requires { Nests g.tables g.grammar g.RPat self.now.depth (P.pre self.now.pattern) (P.post self.now.pattern) }
+        requires { FollowPatterns P.Fn self.now }
         ensures { Reads (reads self.now.depth (optional g.patterns) tokens.old) result tokens.new }
     {
         if !tokens.is_at(Kind::LeftParenthesis) {
@@ -107,7 +101,7 @@ impl<P: Fn(Global, &mut Tokens<'_, Token>, usize) -> Result<Pat, ParseError>> Pa
     /// NAME | NAME '(' list(Pat) ')'
     #[tactic(auto, unfolding(hs_forms::specs::Grammar::named_pattern, hs_forms::specs::Grammar::name))]
     fn named_pattern(&self, tokens: &mut Tokens<'_, Token>) -> Result<Pat, ParseError>
-        requires { Nests g.tables g.grammar g.RPat self.now.depth (P.pre self.now.pattern) (P.post self.now.pattern) }
+        requires { FollowPatterns P.Fn self.now }
         ensures { Reads (reads self.now.depth g.named_pattern tokens.old) result tokens.new }
     {
         let name = name(tokens)?;
@@ -130,7 +124,7 @@ impl<P: Fn(Global, &mut Tokens<'_, Token>, usize) -> Result<Pat, ParseError>> Pa
     /// '(' Pat ',' list(Pat) ')'
     #[tactic(auto, unfolding(hs_forms::specs::Grammar::tuple_pattern))]
     fn tuple_pattern(&self, tokens: &mut Tokens<'_, Token>) -> Result<Pat, ParseError>
-        requires { Nests g.tables g.grammar g.RPat self.now.depth (P.pre self.now.pattern) (P.post self.now.pattern) }
+        requires { FollowPatterns P.Fn self.now }
         ensures { Reads (reads self.now.depth g.tuple_pattern tokens.old) result tokens.new }
     {
         let first = at(tokens, Kind::LeftParenthesis)?;
@@ -144,7 +138,7 @@ impl<P: Fn(Global, &mut Tokens<'_, Token>, usize) -> Result<Pat, ParseError>> Pa
     /// Pat, by its form.
     #[tactic(auto, unfolding(hs_forms::specs::Grammar::pat_form, hs_forms::specs::Grammar::mutable_pattern, hs_forms::specs::Grammar::tuple_pattern))]
     fn pat_form(&self, tokens: &mut Tokens<'_, Token>) -> Result<Pat, ParseError>
-        requires { Nests g.tables g.grammar g.RPat self.now.depth (P.pre self.now.pattern) (P.post self.now.pattern) }
+        requires { FollowPatterns P.Fn self.now }
         ensures { Reads (reads self.now.depth g.pat_form tokens.old) result tokens.new }
     {
         if tokens.is_at(Kind::Mut) {
@@ -162,7 +156,7 @@ impl<P: Fn(Global, &mut Tokens<'_, Token>, usize) -> Result<Pat, ParseError>> Pa
     /// '::' NAME ('(' list(Pat) ')')?, behind the name of a type.
     #[tactic(auto, unfolding(hs_forms::specs::Grammar::member_pattern, hs_forms::specs::Grammar::name))]
     fn member_pattern(&self, tokens: &mut Tokens<'_, Token>, of: Span) -> Result<ArmPat, ParseError>
-        requires { Nests g.tables g.grammar g.RPat self.now.depth (P.pre self.now.pattern) (P.post self.now.pattern) }
+        requires { FollowPatterns P.Fn self.now }
         ensures { Reads (giving (λ f. f of) (reads self.now.depth g.member_pattern tokens.old)) result tokens.new }
     {
         tokens.expect(Kind::PathSeparator)?;
@@ -176,7 +170,7 @@ impl<P: Fn(Global, &mut Tokens<'_, Token>, usize) -> Result<Pat, ParseError>> Pa
     /// What stands behind the first name of an arm's pattern.
     #[tactic(auto, unfolding(hs_forms::specs::Grammar::behind_ctor, hs_forms::specs::Grammar::member_pattern))]
     fn behind_ctor(&self, tokens: &mut Tokens<'_, Token>, name: Span) -> Result<ArmPat, ParseError>
-        requires { Nests g.tables g.grammar g.RPat self.now.depth (P.pre self.now.pattern) (P.post self.now.pattern) }
+        requires { FollowPatterns P.Fn self.now }
         ensures { Reads (giving (λ f. f name) (reads self.now.depth g.behind_ctor tokens.old)) result tokens.new }
     {
         if tokens.is_at(Kind::PathSeparator) {
@@ -191,7 +185,7 @@ impl<P: Fn(Global, &mut Tokens<'_, Token>, usize) -> Result<Pat, ParseError>> Pa
     /// ArmPat
     #[tactic(auto, unfolding(hs_forms::specs::Grammar::arm_pattern, hs_forms::specs::Grammar::name))]
     fn arm_pattern(&self, tokens: &mut Tokens<'_, Token>) -> Result<ArmPat, ParseError>
-        requires { Nests g.tables g.grammar g.RPat self.now.depth (P.pre self.now.pattern) (P.post self.now.pattern) }
+        requires { FollowPatterns P.Fn self.now }
         ensures { Reads (reads self.now.depth g.arm_pattern tokens.old) result tokens.new }
     {
         if tokens.is_at(Kind::Underscore) {

@@ -1,400 +1,252 @@
-//! Types and patterns that are read, with their bytes, and where others are refused. Each token has one byte, but both
-//! halves of a `>>` have the two of the whole.
+//! Types and patterns that are read, with their bytes, and where others are refused.
 
 use crate::{arm_pattern, maybe_open, parts, pattern, patterns, ty};
-use hs_forms::{Kind, Token};
+use hs_forms::{Token, tokens_of};
 use hs_grammar::cursor::Tokens;
 use hs_grammar::error::ParseError;
+use hs_lexer::lex;
 use hs_syntax::{ArmPat, Pat, Span, Ty};
 use sqlite_items::Items;
-use std::alloc::{AllocError, Global};
+use std::alloc::Global;
 use std::test::Fail;
 
-const NAME: Kind = Kind::Name;
-
-const LESS: Kind = Kind::Less;
-
-const GREATER: Kind = Kind::Greater;
-
-const FRONT: Kind = Kind::ShiftFront;
-
-const BACK: Kind = Kind::ShiftBack;
-
-const OPEN: Kind = Kind::LeftParenthesis;
-
-const CLOSE: Kind = Kind::RightParenthesis;
-
-const COMMA: Kind = Kind::Comma;
-
-fn span(start: u32, end: u32) -> Span {
-    Span { start, end }
-}
-
-/// The token of this kind at this byte.
-fn token(kind: Kind, byte: u32) -> Token {
-    let next = byte.saturating_add(1);
-    let span = match kind {
-        Kind::ShiftFront => span(byte, next.saturating_add(1)),
-        Kind::ShiftBack => span(byte.saturating_sub(1), next),
-        _ => span(byte, next),
-    };
-    Token {
-        kind,
-        span,
-        value: 0,
-        suffix: None,
+fn span(bytes: (u32, u32)) -> Span {
+    Span {
+        start: bytes.0,
+        end: bytes.1,
     }
 }
 
-/// Tokens of these kinds, from byte 0 on.
-fn tokens_of(alloc: Global, kinds: &[Kind]) -> Result<Items<Token>, AllocError> {
-    let mut tokens = Items::new(alloc);
-    let mut byte: u32 = 0;
-    for kind in kinds {
-        tokens.push(token(*kind, byte))?;
-        byte = byte.saturating_add(1);
+/// The tokens of a text, as the grammar sees them.
+fn seen(alloc: Global, text: &str) -> Result<Items<Token>, Fail> {
+    match lex(alloc, text.as_bytes()) {
+        Ok(tokens) => Ok(tokens_of(alloc, text.as_bytes(), tokens.as_slice())?),
+        Err(_) => Err(Fail::from("no tokens")),
     }
-    Ok(tokens)
 }
 
-/// What a parser answers on tokens of these kinds where rules nest no deeper than this, and how many tokens it leaves.
-fn answer_at<A, F: FnOnce(Global, &mut Tokens<'_, Token>, usize) -> Result<A, ParseError>>(
+/// What a parser answers on a text where rules nest no deeper than this, and how many tokens it leaves.
+fn answer<A, F: FnOnce(Global, &mut Tokens<'_, Token>, usize) -> Result<A, ParseError>>(
     alloc: Global,
-    kinds: &[Kind],
+    text: &str,
     depth: usize,
     parser: F,
-) -> Result<(Result<A, ParseError>, usize), AllocError>
+) -> Result<(Result<A, ParseError>, usize), Fail>
     requires { F.IsAlwaysCallable parser }
 {
-    let tokens = tokens_of(alloc, kinds)?;
+    let tokens = seen(alloc, text)?;
     let mut rest = Tokens::new(tokens.as_slice());
     let answer = parser(alloc, &mut rest, depth);
     Ok((answer, rest.left()))
 }
 
-/// The same where rules nest as deep as anything below.
-fn answer<A, F: FnOnce(Global, &mut Tokens<'_, Token>, usize) -> Result<A, ParseError>>(
+/// The first of these texts that is not refused with so many tokens left.
+fn taken<'a, A: Drop, F: Fn(Global, &mut Tokens<'_, Token>, usize) -> Result<A, ParseError> + Copy>(
     alloc: Global,
-    kinds: &[Kind],
+    rows: &[(&'a str, usize)],
     parser: F,
-) -> Result<(Result<A, ParseError>, usize), AllocError>
+) -> Result<Option<&'a str>, Fail>
     requires { F.IsAlwaysCallable parser }
 {
-    answer_at(alloc, kinds, 4, parser)
-}
-
-fn is_name(ty: &Ty, start: u32, end: u32) -> bool {
-    matches!(ty, Ty::Name(name) if *name == span(start, end))
-}
-
-/// The types in the brackets of an applied type that has these bytes, and this name.
-fn applied(ty: &Ty, whole: Span, of: Span) -> Option<&[Ty]> {
-    match ty {
-        Ty::Applied(bytes, name, types) if *bytes == whole && *name == of => {
-            Some(types.as_slice())
+    for (text, left) in rows {
+        let (found, rest) = answer(alloc, *text, 4, parser)?;
+        if !matches!(found, Err(ParseError::Syntax)) || rest != *left {
+            return Ok(Some(*text));
         }
-        _ => None,
+    }
+    Ok(None)
+}
+
+/// The types that a type is made of.
+fn inside(ty: &Ty) -> &[Ty] {
+    match ty {
+        Ty::Name(_) | Ty::Unit(_) => &[],
+        Ty::Tuple(_, types) | Ty::Applied(_, _, types) => types.as_slice(),
+    }
+}
+
+/// Whether these are the bytes of the type, of the last that it is made of, and so on.
+fn has_bytes(ty: &Ty, bytes: &[(u32, u32)]) -> bool {
+    let mut at = Some(ty);
+    for pair in bytes {
+        let Some(ty) = at else {
+            return false;
+        };
+        if ty.span() != span(*pair) {
+            return false;
+        }
+        at = inside(ty).last();
+    }
+    at.is_none()
+}
+
+/// The patterns that a pattern is made of.
+fn patterns_inside(pattern: &Pat) -> &[Pat] {
+    match pattern {
+        Pat::Name(_, _, _) | Pat::Any(_) => &[],
+        Pat::Tuple(_, patterns) | Pat::Struct(_, _, patterns) => patterns.as_slice(),
+    }
+}
+
+/// Whether these are the bytes of the pattern, of the last that it is made of, and so on, and whether the innermost has `mut`.
+fn pattern_has(pattern: &Pat, bytes: &[(u32, u32)], mutable: bool) -> bool {
+    let mut at = Some(pattern);
+    let mut is_mutable = false;
+    for pair in bytes {
+        let Some(pattern) = at else {
+            return false;
+        };
+        if pattern.span() != span(*pair) {
+            return false;
+        }
+        is_mutable = matches!(pattern, Pat::Name(_, true, _));
+        at = patterns_inside(pattern).last();
+    }
+    at.is_none() && is_mutable == mutable
+}
+
+/// The bytes of an arm's pattern, its type, its name, and how many patterns stand behind that.
+fn arm_parts(pattern: &ArmPat) -> (Span, Option<Span>, Span, usize) {
+    match pattern {
+        ArmPat::Any(bytes) => (*bytes, None, *bytes, 0),
+        ArmPat::Ctor(bytes, name, patterns) => (*bytes, None, *name, patterns.len()),
+        ArmPat::Member(bytes, ty, name, patterns) => (*bytes, Some(*ty), *name, patterns.len()),
     }
 }
 
 #[test]
-fn applied_types_end_with_their_brackets(rt: HostRuntime) -> Result<(), Fail> {
-    // A<B<C>>
-    let (Ok(nested), 0) = answer(rt.alloc(), &[NAME, LESS, NAME, LESS, NAME, FRONT, BACK], ty)?
-    else {
-        return Err(Fail::from("no type"));
-    };
-    let Some([inner]) = applied(&nested, span(0, 7), span(0, 1)) else {
-        return Err(Fail::from("another outer type"));
-    };
-    let Some([last]) = applied(inner, span(2, 7), span(2, 3)) else {
-        return Err(Fail::from("another inner type"));
-    };
-    assert!(rt; is_name(last, 4, 5));
-
-    // A<B<C>, D>
-    let (Ok(both), 0) = answer(
-        rt.alloc(),
-        &[NAME, LESS, NAME, LESS, NAME, GREATER, COMMA, NAME, GREATER],
-        ty,
-    )?
-    else {
-        return Err(Fail::from("no type"));
-    };
-    let Some([first, second]) = applied(&both, span(0, 9), span(0, 1)) else {
-        return Err(Fail::from("another outer type"));
-    };
-    assert!(rt; applied(first, span(2, 6), span(2, 3)).is_some());
-    assert!(rt; is_name(second, 7, 8));
-
-    // A<B<C<D>>>
-    let (Ok(deep), 0) = answer(
-        rt.alloc(),
-        &[
-            NAME, LESS, NAME, LESS, NAME, LESS, NAME, FRONT, BACK, GREATER,
-        ],
-        ty,
-    )?
-    else {
-        return Err(Fail::from("no type"));
-    };
-    let Some([middle]) = applied(&deep, span(0, 10), span(0, 1)) else {
-        return Err(Fail::from("another outer type"));
-    };
-    let Some([inner]) = applied(middle, span(2, 9), span(2, 3)) else {
-        return Err(Fail::from("another middle type"));
-    };
-    assert!(rt; applied(inner, span(4, 9), span(4, 5)).is_some());
+fn types_have_their_bytes(rt: HostRuntime) -> Result<(), Fail> {
+    let rows: [(&str, &[(u32, u32)], usize); 6] = [
+        ("A<B<C>>", &[(0, 7), (2, 7), (4, 5)], 0),
+        ("A<B<C>, D>", &[(0, 10), (8, 9)], 0),
+        ("A<D, B<C>>", &[(0, 10), (5, 10), (7, 8)], 0),
+        ("A<B<C<D>>>", &[(0, 10), (2, 9), (4, 9), (6, 7)], 0),
+        ("() =", &[(0, 2)], 1),
+        ("(A, B,)", &[(0, 7), (4, 5)], 0),
+    ];
+    for (text, bytes, left) in rows {
+        let (found, rest) = answer(rt.alloc(), text, 4, ty)?;
+        assert!(rt; matches!(&found, Ok(ty) if has_bytes(ty, bytes)), "{text}");
+        assert_eq!(rt; rest, left, "{text}");
+    }
     Ok(())
 }
 
 #[test]
 fn open_types_are_told(rt: HostRuntime) -> Result<(), Fail> {
-    let (Ok((closed, false)), 1) = answer(
-        rt.alloc(),
-        &[NAME, LESS, NAME, GREATER, COMMA],
-        maybe_open,
-    )?
-    else {
-        return Err(Fail::from("no closed type"));
-    };
-    assert!(rt; applied(&closed, span(0, 4), span(0, 1)).is_some());
-    let (Ok((open, true)), 1) = answer(rt.alloc(), &[NAME, LESS, NAME, FRONT, BACK], maybe_open)?
-    else {
-        return Err(Fail::from("no open type"));
-    };
-    assert!(rt; applied(&open, span(0, 5), span(0, 1)).is_some());
-    Ok(())
-}
-
-#[test]
-fn tuples_have_two_types_or_more(rt: HostRuntime) -> Result<(), Fail> {
-    let (Ok(Ty::Unit(whole)), 0) = answer(rt.alloc(), &[OPEN, CLOSE], ty)? else {
-        return Err(Fail::from("no unit"));
-    };
-    assert_eq!(rt; whole, span(0, 2));
-    let (Ok(Ty::Tuple(whole, types)), 0) = answer(
-        rt.alloc(),
-        &[OPEN, NAME, COMMA, NAME, COMMA, CLOSE],
-        ty,
-    )?
-    else {
-        return Err(Fail::from("no tuple"));
-    };
-    assert_eq!(rt; whole, span(0, 6));
-    assert!(rt; matches!(types.as_slice(), [a, b] if is_name(a, 1, 2) && is_name(b, 3, 4)));
-    let (Ok((one, close)), 0) = answer(rt.alloc(), &[OPEN, NAME, CLOSE], parts)? else {
-        return Err(Fail::from("no parts"));
-    };
-    assert_eq!(rt; (one.len(), close), (1, span(2, 3)));
-    Ok(())
-}
-
-#[test]
-fn types_are_refused_where_they_break(rt: HostRuntime) -> Result<(), Fail> {
-    let refused: [(&[Kind], usize); 8] = [
-        (&[], 0),
-        // (u8,)
-        (&[OPEN, NAME, COMMA, CLOSE], 1),
-        // (u8)
-        (&[OPEN, NAME, CLOSE], 1),
-        // A<>
-        (&[NAME, LESS, GREATER], 1),
-        // A<B,>
-        (&[NAME, LESS, NAME, COMMA, GREATER], 1),
-        // A<B>>
-        (&[NAME, LESS, NAME, FRONT, BACK], 2),
-        // A<B<C>
-        (&[NAME, LESS, NAME, LESS, NAME, GREATER], 0),
-        // A<B<C>> without the second half, and B, C> behind it
-        (&[NAME, LESS, NAME, LESS, NAME, FRONT, COMMA, NAME], 2),
-    ];
-    for (kinds, left) in refused {
-        let answer = answer(rt.alloc(), kinds, ty)?;
-        assert!(rt; matches!(answer.0, Err(ParseError::Syntax)), "at {kinds:?}");
-        assert_eq!(rt; answer.1, left, "at {kinds:?}");
+    for (text, is_open) in [("A<B>,", false), ("A<B>>", true), ("A<B<C>>,", false)] {
+        let (found, left) = answer(rt.alloc(), text, 4, maybe_open)?;
+        assert!(rt;
+            matches!(&found, Ok((_, open)) if *open == is_open),
+            "{text}"
+        );
+        assert_eq!(rt; left, 1, "{text}");
     }
+    Ok(())
+}
+
+#[test]
+fn brackets_have_one_item_or_more(rt: HostRuntime) -> Result<(), Fail> {
+    let (types, _) = answer(rt.alloc(), "(A)", 4, parts)?;
+    assert!(rt; matches!(&types, Ok((one, close)) if one.len() == 1 && *close == span((2, 3))));
+    let (list, _) = answer(rt.alloc(), "(a)", 4, patterns)?;
+    assert!(rt; matches!(&list, Ok((one, close)) if one.len() == 1 && *close == span((2, 3))));
+    Ok(())
+}
+
+#[test]
+fn others_are_refused_where_they_break(rt: HostRuntime) -> Result<(), Fail> {
+    let alloc = rt.alloc();
+    let types = [
+        ("", 0),
+        ("(u8,)", 1),
+        ("(u8)", 1),
+        ("A<>", 1),
+        ("A<B,>", 1),
+        ("A<B>>", 2),
+        ("A<B<C>", 0),
+    ];
+    assert_eq!(rt; taken(alloc, &types, ty)?, None);
+    let others = [
+        ("(a)", 1),
+        ("(a,)", 1),
+        ("(a, b c", 1),
+        ("mut", 0),
+        ("mut _", 1),
+        ("S()", 1),
+    ];
+    assert_eq!(rt; taken(alloc, &others, pattern)?, None);
+    let arms = [("mut a", 2), ("E::", 0), ("E::C(", 0)];
+    assert_eq!(rt; taken(alloc, &arms, arm_pattern)?, None);
     Ok(())
 }
 
 #[test]
 fn rules_nest_up_to_the_depth(rt: HostRuntime) -> Result<(), Fail> {
-    let alloc = rt.alloc();
-    assert!(rt;
-        matches!(
-            answer_at(alloc, &[NAME], 0, ty)?,
-            (Err(ParseError::TooDeep), _)
-        )
-    );
-    assert!(rt; matches!(answer_at(alloc, &[NAME], 1, ty)?, (Ok(_), 0)));
-    assert!(rt;
-        matches!(
-            answer_at(alloc, &[NAME, LESS, NAME, GREATER], 1, ty)?,
-            (Err(ParseError::TooDeep), _)
-        )
-    );
-    assert!(rt;
-        matches!(
-            answer_at(alloc, &[NAME, LESS, NAME, GREATER], 2, ty)?,
-            (Ok(_), 0)
-        )
-    );
-    assert!(rt;
-        matches!(
-            answer_at(alloc, &[NAME], 0, pattern)?,
-            (Err(ParseError::TooDeep), _)
-        )
-    );
-    assert!(rt; matches!(answer_at(alloc, &[NAME], 0, arm_pattern)?, (Ok(_), 0)));
-    assert!(rt;
-        matches!(
-            answer_at(alloc, &[NAME, OPEN, NAME, CLOSE], 0, arm_pattern)?,
-            (Err(ParseError::TooDeep), _)
-        )
-    );
+    for (text, depth, is_read) in [
+        ("A", 0, false),
+        ("A", 1, true),
+        ("A<B>", 1, false),
+        ("A<B>", 2, true),
+    ] {
+        let (found, _) = answer(rt.alloc(), text, depth, ty)?;
+        assert_eq!(rt; found.is_ok(), is_read, "{text} at {depth}");
+        assert_eq!(rt;
+            matches!(found, Err(ParseError::TooDeep)),
+            !is_read,
+            "{text} at {depth}"
+        );
+    }
+    let (found, _) = answer(rt.alloc(), "A", 0, pattern)?;
+    assert!(rt; matches!(found, Err(ParseError::TooDeep)));
+    let (found, _) = answer(rt.alloc(), "A", 0, arm_pattern)?;
+    assert!(rt; found.is_ok());
+    let (found, _) = answer(rt.alloc(), "A(b)", 0, arm_pattern)?;
+    assert!(rt; matches!(found, Err(ParseError::TooDeep)));
     Ok(())
 }
 
 #[test]
-fn patterns_have_their_forms(rt: HostRuntime) -> Result<(), Fail> {
-    let alloc = rt.alloc();
-    let (Ok(Pat::Name(whole, false, name)), 0) = answer(alloc, &[NAME], pattern)? else {
-        return Err(Fail::from("no name"));
-    };
-    assert_eq!(rt; (whole, name), (span(0, 1), span(0, 1)));
-    let (Ok(Pat::Name(whole, true, name)), 0) = answer(alloc, &[Kind::Mut, NAME], pattern)? else {
-        return Err(Fail::from("no mutable name"));
-    };
-    assert_eq!(rt; (whole, name), (span(0, 2), span(1, 2)));
-    // (_, S(a, mut b),)
-    let kinds = [
-        OPEN,
-        Kind::Underscore,
-        COMMA,
-        NAME,
-        OPEN,
-        NAME,
-        COMMA,
-        Kind::Mut,
-        NAME,
-        CLOSE,
-        COMMA,
-        CLOSE,
+fn patterns_have_their_bytes(rt: HostRuntime) -> Result<(), Fail> {
+    let rows: [(&str, &[(u32, u32)], bool); 4] = [
+        ("a", &[(0, 1)], false),
+        ("_", &[(0, 1)], false),
+        ("mut a", &[(0, 5)], true),
+        ("(_, S(a, mut b),)", &[(0, 17), (4, 15), (9, 14)], true),
     ];
-    let (Ok(Pat::Tuple(whole, parts)), 0) = answer(alloc, &kinds, pattern)? else {
-        return Err(Fail::from("no tuple"));
-    };
-    assert_eq!(rt; whole, span(0, 12));
-    let [Pat::Any(any), Pat::Struct(whole, name, parts)] = parts.as_slice() else {
-        return Err(Fail::from("other parts"));
-    };
-    assert_eq!(rt;
-        (*any, *whole, *name),
-        (span(1, 2), span(3, 10), span(3, 4))
-    );
-    assert!(rt;
-        matches!(
-            parts.as_slice(),
-            [Pat::Name(_, false, _), Pat::Name(_, true, _)]
-        )
-    );
-    let (Ok((one, close)), 0) = answer(alloc, &[OPEN, NAME, CLOSE], patterns)? else {
-        return Err(Fail::from("no patterns"));
-    };
-    assert_eq!(rt; (one.len(), close), (1, span(2, 3)));
-    Ok(())
-}
-
-#[test]
-fn patterns_of_arms_have_their_forms(rt: HostRuntime) -> Result<(), Fail> {
-    let alloc = rt.alloc();
-    let of = Kind::PathSeparator;
-    assert!(rt;
-        matches!(
-            answer(alloc, &[Kind::Underscore], arm_pattern)?,
-            (Ok(ArmPat::Any(_)), 0)
-        )
-    );
-    let (Ok(ArmPat::Ctor(whole, name, parts)), 1) = answer(
-        alloc,
-        &[NAME, Kind::FatArrow],
-        arm_pattern,
-    )?
-    else {
-        return Err(Fail::from("no constructor"));
-    };
-    assert_eq!(rt; (whole, name, parts.len()), (span(0, 1), span(0, 1), 0));
-    let (Ok(ArmPat::Ctor(whole, name, parts)), 0) = answer(
-        alloc,
-        &[NAME, OPEN, NAME, CLOSE],
-        arm_pattern,
-    )?
-    else {
-        return Err(Fail::from("no constructor with a part"));
-    };
-    assert_eq!(rt; (whole, name, parts.len()), (span(0, 4), span(0, 1), 1));
-    let (Ok(ArmPat::Member(whole, ty, name, parts)), 0) = answer(
-        alloc,
-        &[NAME, of, NAME],
-        arm_pattern,
-    )?
-    else {
-        return Err(Fail::from("no member"));
-    };
-    assert_eq!(rt;
-        (whole, ty, name, parts.len()),
-        (span(0, 3), span(0, 1), span(2, 3), 0)
-    );
-    let (Ok(ArmPat::Member(whole, _, _, parts)), 0) = answer(
-        alloc,
-        &[NAME, of, NAME, OPEN, NAME, COMMA, NAME, CLOSE],
-        arm_pattern,
-    )?
-    else {
-        return Err(Fail::from("no member with parts"));
-    };
-    assert_eq!(rt; (whole, parts.len()), (span(0, 8), 2));
-    Ok(())
-}
-
-#[test]
-fn patterns_are_refused_where_they_break(rt: HostRuntime) -> Result<(), Fail> {
-    let refused: [(&[Kind], usize); 6] = [
-        // (a)
-        (&[OPEN, NAME, CLOSE], 1),
-        // (a,)
-        (&[OPEN, NAME, COMMA, CLOSE], 1),
-        // (a, b c
-        (&[OPEN, NAME, COMMA, NAME, NAME], 1),
-        // mut
-        (&[Kind::Mut], 0),
-        // mut _
-        (&[Kind::Mut, Kind::Underscore], 1),
-        // S()
-        (&[NAME, OPEN, CLOSE], 1),
-    ];
-    for (kinds, left) in refused {
-        let answer = answer(rt.alloc(), kinds, pattern)?;
-        assert!(rt; matches!(answer.0, Err(ParseError::Syntax)), "at {kinds:?}");
-        assert_eq!(rt; answer.1, left, "at {kinds:?}");
+    for (text, bytes, mutable) in rows {
+        let (found, left) = answer(rt.alloc(), text, 4, pattern)?;
+        assert!(rt;
+            matches!(&found, Ok(pattern) if pattern_has(pattern, bytes, mutable)),
+            "{text}"
+        );
+        assert_eq!(rt; left, 0, "{text}");
     }
     Ok(())
 }
 
 #[test]
-fn patterns_of_arms_are_refused_where_they_break(rt: HostRuntime) -> Result<(), Fail> {
-    let refused: [(&[Kind], usize); 3] = [
-        // mut a
-        (&[Kind::Mut, NAME], 2),
-        // E::
-        (&[NAME, Kind::PathSeparator], 0),
-        // E::C(
-        (&[NAME, Kind::PathSeparator, NAME, OPEN], 0),
+fn patterns_of_arms_have_their_parts(rt: HostRuntime) -> Result<(), Fail> {
+    let rows = [
+        ("_", span((0, 1)), None, span((0, 1)), 0),
+        ("A", span((0, 1)), None, span((0, 1)), 0),
+        ("A(b)", span((0, 4)), None, span((0, 1)), 1),
+        ("A::B", span((0, 4)), Some(span((0, 1))), span((3, 4)), 0),
+        (
+            "A::B(c, d)",
+            span((0, 10)),
+            Some(span((0, 1))),
+            span((3, 4)),
+            2,
+        ),
     ];
-    for (kinds, left) in refused {
-        let answer = answer(rt.alloc(), kinds, arm_pattern)?;
-        assert!(rt; matches!(answer.0, Err(ParseError::Syntax)), "at {kinds:?}");
-        assert_eq!(rt; answer.1, left, "at {kinds:?}");
+    for (text, bytes, ty, name, count) in rows {
+        let (found, left) = answer(rt.alloc(), text, 4, arm_pattern)?;
+        assert!(rt;
+            matches!(&found, Ok(arm) if arm_parts(arm) == (bytes, ty, name, count)),
+            "{text}"
+        );
+        assert_eq!(rt; left, 0, "{text}");
     }
     Ok(())
 }

@@ -1,26 +1,28 @@
 //! Types.
 
-ghost use Rattle.std.specs.Prelude.{◌≡◌, ◌∷◌, ◌++◌, [], false, IfOk};
+ghost use Rattle.std.specs.Prelude.{◌≡◌, false};
 ghost use Rattle.hs_grammar.specs.Kinds.{starts};
 ghost use Rattle.hs_grammar.specs.Parser.{giving};
 ghost use Rattle.hs_grammar.specs.Words.{rule, list_read, list_turn};
 ghost use Rattle.hs_grammar.specs.Form.{Map};
-ghost use Rattle.hs_grammar.specs.Reads.{Reads, Nests};
+ghost use Rattle.hs_grammar.specs.Reads.{Reads};
 ghost use Rattle.hs_grammar.specs.Until.{turn_of, pushed, kept};
 ghost use Rattle.hs_forms.specs.Lexis.{lexis};
 ghost use Rattle.hs_forms.specs.Nodes.{all_types};
 ghost use Rattle.hs_forms.specs.Blocks.{step_of};
 ghost use Rattle.hs_forms.specs.Grammar as g;
 ghost use Rattle.hs_forms.specs.Reading.{reads};
+ghost use Rattle.hs_parse_types.specs.Follow.{FollowTypes};
 ghost use Rattle.hs_parse_types.specs.Lists.{one_more, last_one};
 
+use crate::items::alone;
 use hs_forms::{Kind, Token, across, at, is_at_name, name};
 use hs_grammar::cursor::Tokens;
 use hs_grammar::error::ParseError;
 use hs_grammar::loops::{Turn, repeat_until};
 use hs_syntax::{Span, Ty};
 use sqlite_items::Items;
-use std::alloc::{AllocError, Global};
+use std::alloc::Global;
 
 /// Whether the next token can begin a type.
 fn is_at_type(tokens: &Tokens<'_, Token>) -> bool
@@ -29,16 +31,8 @@ fn is_at_type(tokens: &Tokens<'_, Token>) -> bool
     tokens.is_at(Kind::LeftParenthesis) || is_at_name(tokens)
 }
 
-/// The list of this type alone.
-fn alone(alloc: Global, first: Ty) -> Result<Items<Ty>, AllocError>
-    ensures { IfOk result (λ types. types ≡ first ∷ []) }
-{
-    let mut types = Items::new(alloc);
-    types.push(first)?;
-    Ok(types)
-}
-
-/// The forms of types. The rules that they refer to are function values, which get the depth.
+/// The parsers of types and of types that may be open, over which each form of a type is read. They get the depth, and each
+/// form requires that they follow the grammar.
 #[derive(Clone, Copy)]
 pub struct TypeRules<T, M> {
     alloc: Global,
@@ -54,7 +48,7 @@ impl<
 > TypeRules<T, M> {
     /// Type
     fn ty(&self, tokens: &mut Tokens<'_, Token>) -> Result<Ty, ParseError>
-        requires { Nests g.tables g.grammar g.RType self.now.depth (T.pre self.now.ty) (T.post self.now.ty) }
+        requires { FollowTypes T.Fn M.Fn self.now }
         ensures { Reads (reads self.now.depth g.type_ tokens.old) result tokens.new }
     {
         (self.ty)(self.alloc, tokens, self.depth)
@@ -62,7 +56,7 @@ impl<
 
     /// A type that may be open.
     fn maybe_open(&self, tokens: &mut Tokens<'_, Token>) -> Result<(Ty, bool), ParseError>
-        requires { Nests g.tables g.grammar g.RMaybe self.now.depth (M.pre self.now.maybe_open) (M.post self.now.maybe_open) }
+        requires { FollowTypes T.Fn M.Fn self.now }
         ensures { Reads (reads self.now.depth (rule g.RMaybe) tokens.old) result tokens.new }
     {
         (self.maybe_open)(self.alloc, tokens, self.depth)
@@ -70,7 +64,7 @@ impl<
 
     /// list(Type)
     fn list(&self, tokens: &mut Tokens<'_, Token>) -> Result<Items<Ty>, ParseError>
-        requires { Nests g.tables g.grammar g.RType self.now.depth (T.pre self.now.ty) (T.post self.now.ty) }
+        requires { FollowTypes T.Fn M.Fn self.now }
         ensures { Reads (reads self.now.depth (list_read g.comma g.type_) tokens.old) result tokens.new }
     {
         let first = alone(self.alloc, self.ty(tokens)?)?;
@@ -79,7 +73,7 @@ impl<
             first,
             &[Kind::Comma],
             |mut types, tokens|
-                requires { Nests g.tables g.grammar g.RType self.now.depth (T.pre self.now.ty) (T.post self.now.ty) }
+                requires { FollowTypes T.Fn M.Fn self.now }
                 ensures { Reads (giving (turn_of pushed kept types) (reads self.entry.now.depth (list_turn g.comma g.type_) tokens.old)) result tokens.new }
             {
                 tokens.expect(Kind::Comma)?;
@@ -96,7 +90,7 @@ impl<
     /// '(' list(Type) ')'
     #[tactic(auto, unfolding(hs_forms::specs::Grammar::parts))]
     fn parts(&self, tokens: &mut Tokens<'_, Token>) -> Result<(Items<Ty>, Span), ParseError>
-        requires { Nests g.tables g.grammar g.RType self.now.depth (T.pre self.now.ty) (T.post self.now.ty) }
+        requires { FollowTypes T.Fn M.Fn self.now }
         ensures { Reads (reads self.now.depth g.parts tokens.old) result tokens.new }
     {
         tokens.expect(Kind::LeftParenthesis)?;
@@ -108,7 +102,7 @@ impl<
     /// ',' Type, where the last may be open.
     #[tactic(auto, unfolding(hs_forms::specs::Grammar::next_type))]
     fn next_type(&self, tokens: &mut Tokens<'_, Token>) -> Result<(Ty, bool), ParseError>
-        requires { Nests g.tables g.grammar g.RMaybe self.now.depth (M.pre self.now.maybe_open) (M.post self.now.maybe_open) }
+        requires { FollowTypes T.Fn M.Fn self.now }
         ensures { Reads (reads self.now.depth g.next_type tokens.old) result tokens.new }
     {
         tokens.expect(Kind::Comma)?;
@@ -121,7 +115,7 @@ impl<
         tokens: &mut Tokens<'_, Token>,
         first: Ty,
     ) -> Result<(Items<Ty>, bool), ParseError>
-        requires { Nests g.tables g.grammar g.RMaybe self.now.depth (M.pre self.now.maybe_open) (M.post self.now.maybe_open) }
+        requires { FollowTypes T.Fn M.Fn self.now }
         ensures { Reads (giving (all_types (first, false)) (reads self.now.depth g.next_types tokens.old)) result tokens.new }
     {
         let types = alone(self.alloc, first)?;
@@ -130,7 +124,7 @@ impl<
             (types, false),
             &[Kind::Comma],
             |(mut types, was_open), tokens|
-                requires { Nests g.tables g.grammar g.RMaybe self.now.depth (M.pre self.now.maybe_open) (M.post self.now.maybe_open) }
+                requires { FollowTypes T.Fn M.Fn self.now }
                 ensures { Reads (giving (turn_of one_more last_one (types, was_open)) (reads self.entry.now.depth (Map step_of g.next_type) tokens.old)) result tokens.new }
             {
                 let (next, open) = self.next_type(tokens)?;
@@ -147,7 +141,7 @@ impl<
     /// Type (',' Type)*, and whether the last is open.
     #[tactic(auto, unfolding(hs_forms::specs::Grammar::types))]
     fn types(&self, tokens: &mut Tokens<'_, Token>) -> Result<(Items<Ty>, bool), ParseError>
-        requires { Nests g.tables g.grammar g.RMaybe self.now.depth (M.pre self.now.maybe_open) (M.post self.now.maybe_open) }
+        requires { FollowTypes T.Fn M.Fn self.now }
         ensures { Reads (reads self.now.depth g.types tokens.old) result tokens.new }
     {
         let (first, open) = self.maybe_open(tokens)?;
@@ -160,7 +154,7 @@ impl<
     /// '<' Type (',' Type)*
     #[tactic(auto, unfolding(hs_forms::specs::Grammar::angle))]
     fn angle(&self, tokens: &mut Tokens<'_, Token>) -> Result<(Items<Ty>, bool), ParseError>
-        requires { Nests g.tables g.grammar g.RMaybe self.now.depth (M.pre self.now.maybe_open) (M.post self.now.maybe_open) }
+        requires { FollowTypes T.Fn M.Fn self.now }
         ensures { Reads (reads self.now.depth g.angle tokens.old) result tokens.new }
     {
         tokens.expect(Kind::Less)?;
@@ -170,7 +164,7 @@ impl<
     /// What stands behind the name of an applied type, up to its bracket.
     #[tactic(auto, unfolding(hs_forms::specs::Grammar::closed))]
     fn closed(&self, tokens: &mut Tokens<'_, Token>, name: Span) -> Result<Ty, ParseError>
-        requires { Nests g.tables g.grammar g.RMaybe self.now.depth (M.pre self.now.maybe_open) (M.post self.now.maybe_open) }
+        requires { FollowTypes T.Fn M.Fn self.now }
         ensures { Reads (giving (λ f. f name) (reads self.now.depth g.closed tokens.old)) result tokens.new }
     {
         let (types, open) = self.angle(tokens)?;
@@ -200,7 +194,7 @@ impl<
         tokens: &mut Tokens<'_, Token>,
         name: Span,
     ) -> Result<(Ty, bool), ParseError>
-        requires { Nests g.tables g.grammar g.RMaybe self.now.depth (M.pre self.now.maybe_open) (M.post self.now.maybe_open) }
+        requires { FollowTypes T.Fn M.Fn self.now }
         ensures { Reads (giving (λ f. f name) (reads self.now.depth g.maybe_closed tokens.old)) result tokens.new }
     {
         let (types, open) = self.angle(tokens)?;
@@ -215,7 +209,7 @@ impl<
     /// Type ',' list(Type) ')', behind this '('.
     #[tactic(auto, unfolding(hs_forms::specs::Grammar::tuple_items))]
     fn tuple_items(&self, tokens: &mut Tokens<'_, Token>, first: Span) -> Result<Ty, ParseError>
-        requires { Nests g.tables g.grammar g.RType self.now.depth (T.pre self.now.ty) (T.post self.now.ty) }
+        requires { FollowTypes T.Fn M.Fn self.now }
         ensures { Reads (giving (λ f. f first) (reads self.now.depth g.tuple_items tokens.old)) result tokens.new }
     {
         let head = self.ty(tokens)?;
@@ -229,7 +223,7 @@ impl<
     /// What stands behind this '(': ')' | Type ',' list(Type) ')'
     #[tactic(auto, unfolding(hs_forms::specs::Grammar::tuple_rest))]
     fn tuple_rest(&self, tokens: &mut Tokens<'_, Token>, first: Span) -> Result<Ty, ParseError>
-        requires { Nests g.tables g.grammar g.RType self.now.depth (T.pre self.now.ty) (T.post self.now.ty) }
+        requires { FollowTypes T.Fn M.Fn self.now }
         ensures { Reads (giving (λ f. f first) (reads self.now.depth g.tuple_rest tokens.old)) result tokens.new }
     {
         if tokens.is_at(Kind::RightParenthesis) {
@@ -242,7 +236,7 @@ impl<
     /// '(' ')' | '(' Type ',' list(Type) ')'
     #[tactic(auto, unfolding(hs_forms::specs::Grammar::bracketed))]
     fn bracketed(&self, tokens: &mut Tokens<'_, Token>) -> Result<Ty, ParseError>
-        requires { Nests g.tables g.grammar g.RType self.now.depth (T.pre self.now.ty) (T.post self.now.ty) }
+        requires { FollowTypes T.Fn M.Fn self.now }
         ensures { Reads (reads self.now.depth g.bracketed tokens.old) result tokens.new }
     {
         let first = at(tokens, Kind::LeftParenthesis)?;
@@ -252,8 +246,7 @@ impl<
     /// Type, by its form.
     #[tactic(auto, unfolding(hs_forms::specs::Grammar::type_form, hs_forms::specs::Grammar::bracketed, hs_forms::specs::Grammar::name, hs_forms::specs::Grammar::closed, hs_forms::specs::Grammar::angle))]
     fn type_form(&self, tokens: &mut Tokens<'_, Token>) -> Result<Ty, ParseError>
-        requires types { Nests g.tables g.grammar g.RType self.now.depth (T.pre self.now.ty) (T.post self.now.ty) }
-        requires maybe { Nests g.tables g.grammar g.RMaybe self.now.depth (M.pre self.now.maybe_open) (M.post self.now.maybe_open) }
+        requires { FollowTypes T.Fn M.Fn self.now }
         ensures { Reads (reads self.now.depth g.type_form tokens.old) result tokens.new }
     {
         if tokens.is_at(Kind::LeftParenthesis) {
@@ -269,8 +262,7 @@ impl<
     /// A type that may be open, by its form.
     #[tactic(auto, unfolding(hs_forms::specs::Grammar::maybe_form, hs_forms::specs::Grammar::bracketed, hs_forms::specs::Grammar::name, hs_forms::specs::Grammar::maybe_closed, hs_forms::specs::Grammar::angle))]
     fn maybe_form(&self, tokens: &mut Tokens<'_, Token>) -> Result<(Ty, bool), ParseError>
-        requires types { Nests g.tables g.grammar g.RType self.now.depth (T.pre self.now.ty) (T.post self.now.ty) }
-        requires maybe { Nests g.tables g.grammar g.RMaybe self.now.depth (M.pre self.now.maybe_open) (M.post self.now.maybe_open) }
+        requires { FollowTypes T.Fn M.Fn self.now }
         ensures { Reads (reads self.now.depth g.maybe_form tokens.old) result tokens.new }
     {
         if tokens.is_at(Kind::LeftParenthesis) {

@@ -12,7 +12,7 @@ block_rule-returns t c =
 pub exp_rule-returns : goal.exp_rule-returns
 exp_rule-returns t c =
     let e : suc (c.args.depth - 1) ≡ c.args.depth = omega arith in
-    subst (λ n. Reads (parse_by tables grammar n RExp c.args.tokens.now) c.level.result c.level.new.tokens) e c.level.ensures
+    subst (λ n. Reads (parse_by tables grammar n RExp c.args.tokens.now) c.binary.result c.binary.new.tokens) e c.binary.ensures
 
 pub if_rule-returns : goal.if_rule-returns
 if_rule-returns t c =
