@@ -1,145 +1,32 @@
--- What is broken is listed in the order in which it is told, where nodes lie one behind the other and parts in their nodes.
-use Rattle.std.proofs.Common.{ℕ, suc, ◌≡◌, ◌<◌, ◌≤◌, ◌⊎◌, inl, inr, refl, sym, ◌∙◌, ap, ap₂, subst, Bool, true, false, cond, ltb, Option, Some, None, List, [], ◌∷◌, ◌++◌, map, arith}
-use Rattle.std.proofs.Math.Nat.{eq-or-lt_of_le}
-use Rattle.hs_base.specs.declared.rule.Rule.{Rule}
+-- Of a file whose nodes are nested, what is broken first on the way is told.
+use Rattle.std.proofs.Common.{ℕ, suc, Bool, true, false, cond, ltb, Option, Some, None, [], ◌∷◌, ◌++◌, arith}
 use Rattle.hs_base.specs.declared.rule.Rule.TheVariants.{S2}
-use Rattle.hs_base.specs.Rules.{number_of}
-use Rattle.hs_syntax.specs.declared.span.Span.{Span}
-use Rattle.hs_limits.specs.declared.passed.Passed.{Passed}
-use Rattle.hs_limits.specs.Outline.{Outline, Kind, Surplus, none, join, node, counted, through, apart, parameter, statement, part, rise, height}
+use Rattle.hs_marks.specs.Told.{Lies, Rising, RisesFrom}
+use Rattle.hs_limits.specs.Outline.{Outline, Kind, Surplus, none, join, node, counted, through, apart, parameter, statement, part, height}
 use Rattle.hs_limits.specs.Nested.{Nested}
-use Rattle.hs_limits.specs.Told.{Mark, mark, marks, too_high, too_many, Before, Among, Each, Told, Answers}
-use Rattle.hs_limits.specs.Walk.{first}
-use Rattle.hs_limits.proofs.First.{head_of, first_is}
+use Rattle.hs_limits.specs.Told.{broken, marked, too_many}
 
--- m is told before n, and is not n
-abbrev Ahead : Mark → Mark → Type 0
-Ahead m n = (m.at.end < n.at.end) ⊎ ((m.at.end ≡ n.at.end) × ((n.depth < m.depth) ⊎ ((m.depth ≡ n.depth) × (number_of m.rule < number_of n.rule))))
+pub lies : (o : Outline) (low high : ℕ) → Nested o low high → Lies (marked o) low high
+lies none low high h = h
+lies (join a b) low high h = (h.0, lies a low h.0 h.1, lies b h.0 high h.2)
+lies (node at kind over parts) low high h = (h.0, h.1, h.2, lies parts at.start at.end h.3)
 
-ahead_before : (m n : Mark) → Ahead m n → Before m n
-ahead_before m n (inl h) = inl h
-ahead_before m n (inr (e, inl h)) = inr (e, inl h)
-ahead_before m n (inr (e, inr (d, h))) = inr (e, inr (d, omega arith))
+own : (b : Bool) (over : Option Surplus) → RisesFrom 0 (cond b (S2 ∷ []) [] ++ too_many over)
+own true None = (omega arith, tt {0})
+own true (Some parameter) = (omega arith, (omega arith, tt {0}))
+own true (Some statement) = (omega arith, (omega arith, tt {0}))
+own true (Some part) = (omega arith, (omega arith, tt {0}))
+own false None = tt {0}
+own false (Some parameter) = (omega arith, tt {0})
+own false (Some statement) = (omega arith, tt {0})
+own false (Some part) = (omega arith, tt {0})
 
-not_before : (m n : Mark) → Ahead m n → Before n m → ⊥
-not_before m n (inl h) (inl k) = omega arith
-not_before m n (inl h) (inr (f, k)) = omega arith
-not_before m n (inr (e, h)) (inl k) = omega arith
-not_before m n (inr (e, inl h)) (inr (f, inl k)) = omega arith
-not_before m n (inr (e, inl h)) (inr (f, inr (d, k))) = omega arith
-not_before m n (inr (e, inr (d, h))) (inr (f, inl k)) = omega arith
-not_before m n (inr (e, inr (d, h))) (inr (f, inr (g, k))) = omega arith
+broken_rises : (kind : Kind) (over : Option Surplus) (h : ℕ) → RisesFrom 0 (broken kind over h)
+broken_rises counted over h = own (ltb 64 (suc h)) over
+broken_rises through over h = own false over
+broken_rises apart over h = own false over
 
--- each is told before all that follow
-abbrev Sorted : List Mark → Type 0
-Sorted [] = Unit {0}
-Sorted (m ∷ ms) = Each (Ahead m) ms × Sorted ms
-
-abbrev Within : ℕ → ℕ → ℕ → Mark → Type 0
-Within low high depth m = (low < m.at.end) × (m.at.end ≤ high) × (depth ≤ m.depth)
-
--- in order, with ends between the two places, in so many nodes at least
-abbrev In : ℕ → ℕ → ℕ → List Mark → Type 0
-In low high depth ms = Each (Within low high depth) ms × Sorted ms
-
-each_map : (P Q : Mark → Type 0) → ((m : Mark) → P m → Q m) → (ms : List Mark) → Each P ms → Each Q ms
-each_map P Q f [] h = tt {0}
-each_map P Q f (m ∷ ms) h = (f m h.0, each_map P Q f ms h.1)
-
-each_append : (P : Mark → Type 0) (xs ys : List Mark) → Each P xs → Each P ys → Each P (xs ++ ys)
-each_append P [] ys h k = k
-each_append P (x ∷ xs) ys h k = (h.0, each_append P xs ys h.1 k)
-
-sorted_append : (P Q : Mark → Type 0) → ((m n : Mark) → P m → Q n → Ahead m n) → (xs ys : List Mark) → Each P xs → Each Q ys → Sorted xs → Sorted ys → Sorted (xs ++ ys)
-sorted_append P Q f [] ys h k a b = b
-sorted_append P Q f (x ∷ xs) ys h k a b =
-    (each_append (Ahead x) xs ys a.0 (each_map Q (Ahead x) (λ n q. f x n h.0 q) ys k), sorted_append P Q f xs ys h.1 k a.1 b)
-
-nested_ordered : (o : Outline) (low high : ℕ) → Nested o low high → low ≤ high
-nested_ordered none low high h = h
-nested_ordered (join a b) low high h = let i = nested_ordered a low h.0 h.1 in let j = nested_ordered b h.0 high h.2 in omega (arith, i, j)
-nested_ordered (node at kind over parts) low high h = omega (arith, h.0, h.1, h.2)
-
-in_append : (low middle high depth : ℕ) (xs ys : List Mark) → low ≤ middle → middle ≤ high → In low middle depth xs → In middle high depth ys → In low high depth (xs ++ ys)
-in_append low middle high depth xs ys p r h k = (
-  each_append (Within low high depth) xs ys
-      (each_map (Within low middle depth) (Within low high depth) (λ m q. (q.0, omega (arith, q.1, r), q.2)) xs h.0)
-      (each_map (Within middle high depth) (Within low high depth) (λ m q. (omega (arith, q.0, p), q.1, q.2)) ys k.0),
-  sorted_append (Within low middle depth) (Within middle high depth) (λ m n a b. inl (omega (arith, a.1, b.0))) xs ys h.0 k.0 h.1 k.1,
-)
-
--- the rules of one node
-abbrev Own : Span → ℕ → Mark → Type 0
-Own at depth m = (m.at.end ≡ at.end) × (m.depth ≡ depth)
-
-own_each : (at : Span) (depth : ℕ) (rules : List Rule) → Each (Own at depth) (map (mark at depth) rules)
-own_each at depth [] = tt {0}
-own_each at depth (r ∷ rs) = ((refl, refl), own_each at depth rs)
-
-own_sorted : (at : Span) (depth : ℕ) (b : Bool) (over : Option Surplus) → Sorted (map (mark at depth) (cond b (S2 ∷ []) [] ++ too_many over))
-own_sorted at depth true None = (tt {0}, tt {0})
-own_sorted at depth true (Some parameter) = ((inr (refl, inr (refl, omega arith)), tt {0}), (tt {0}, tt {0}))
-own_sorted at depth true (Some statement) = ((inr (refl, inr (refl, omega arith)), tt {0}), (tt {0}, tt {0}))
-own_sorted at depth true (Some part) = ((inr (refl, inr (refl, omega arith)), tt {0}), (tt {0}, tt {0}))
-own_sorted at depth false None = tt {0}
-own_sorted at depth false (Some parameter) = (tt {0}, tt {0})
-own_sorted at depth false (Some statement) = (tt {0}, tt {0})
-own_sorted at depth false (Some part) = (tt {0}, tt {0})
-
-own_in_order : (at : Span) (depth : ℕ) (kind : Kind) (over : Option Surplus) (h : ℕ) → Sorted (map (mark at depth) (too_high kind h ++ too_many over))
-own_in_order at depth counted over h = own_sorted at depth (ltb 64 h) over
-own_in_order at depth through over h = own_sorted at depth false over
-own_in_order at depth apart over h = own_sorted at depth false over
-
-ahead_own : (at : Span) (depth : ℕ) (m n : Mark) → m.at.end ≤ at.end → suc depth ≤ m.depth → Own at depth n → (m.at.end ≡ at.end) ⊎ (m.at.end < at.end) → Ahead m n
-ahead_own at depth m n a b p (inl h) = inr (h ∙ sym p.0, inl (omega (arith, b, p.1)))
-ahead_own at depth m n a b p (inr h) = inl (omega (arith, h, p.0))
-
-in_node : (at : Span) (depth low high : ℕ) (rules : List Rule) (ms : List Mark) → low ≤ at.start → at.start < at.end → at.end ≤ high
-    → In at.start at.end (suc depth) ms → Sorted (map (mark at depth) rules) → In low high depth (ms ++ map (mark at depth) rules)
-in_node at depth low high rules ms p q r h k = (
-  each_append (Within low high depth) ms (map (mark at depth) rules)
-      (each_map (Within at.start at.end (suc depth)) (Within low high depth) (λ m w. (omega (arith, w.0, p), omega (arith, w.1, r), omega (arith, w.2))) ms h.0)
-      (each_map (Own at depth) (Within low high depth) (λ m w. (omega (arith, w.0, p, q), omega (arith, w.0, r), omega (arith, w.1))) (map (mark at depth) rules) (own_each at depth rules)),
-  sorted_append (Within at.start at.end (suc depth)) (Own at depth) (λ m n a b. ahead_own at depth m n a.1 a.2 b (eq-or-lt_of_le a.1))
-      ms (map (mark at depth) rules) h.0 (own_each at depth rules) h.1 k,
-)
-
-in_order : (o : Outline) (depth low high : ℕ) → Nested o low high → In low high depth (marks o depth)
-in_order none depth low high h = (tt {0}, tt {0})
-in_order (join a b) depth low high h =
-    in_append low h.0 high depth (marks a depth) (marks b depth) (nested_ordered a low h.0 h.1) (nested_ordered b h.0 high h.2) (in_order a depth low h.0 h.1) (in_order b depth h.0 high h.2)
-in_order (node at kind over parts) depth low high h =
-    in_node at depth low high (too_high kind (rise kind (height parts)) ++ too_many over) (marks parts (suc depth)) h.0 h.1 h.2
-    (in_order parts (suc depth) at.start at.end h.3) (own_in_order at depth kind over (rise kind (height parts)))
-
-head_told : (ms : List Mark) → Sorted ms → Answers ms (head_of ms)
-head_told [] h = refl
-head_told (m ∷ ms) h = (m, inl refl, (inr (refl, inr (refl, omega arith)), each_map (Ahead m) (Before m) (ahead_before m) ms h.0), refl, refl)
-
--- where nodes are nested, the first on the way is the told one
-pub first_told : (o : Outline) (low high : ℕ) → Nested o low high → Answers (marks o 0) (first o)
-first_told o low high h = subst (Answers (marks o 0)) (sym (first_is o 0)) (head_told (marks o 0) (in_order o 0 low high h).1)
-
-each_among : (P : Mark → Type 0) (ms : List Mark) (m : Mark) → Each P ms → Among m ms → P m
-each_among P [] m h a = absurd a
-each_among P (n ∷ ns) m h (inl e) = subst P (sym e) h.0
-each_among P (n ∷ ns) m h (inr a) = each_among P ns m h.1 a
-
-abbrev some_passed : Rule → Span → Option Passed
-some_passed rule at = Some (record { rule = rule; span = at })
-
--- what is told before all of them is their first
-told_first : (n : Mark) (ns : List Mark) → Each (Ahead n) ns → (p : Passed) (m : Mark) → (m ≡ n) ⊎ Among m ns → Before m n
-    → p.rule ≡ m.rule → p.span ≡ m.at → head_of (n ∷ ns) ≡ Some p
-told_first n ns h p m (inl e) b r s =
-    ap₂ some_passed (ap (λ (x : Mark). x.rule) (sym e) ∙ sym r) (ap (λ (x : Mark). x.at) (sym e) ∙ sym s)
-told_first n ns h p m (inr a) b r s = absurd (not_before n m (each_among (Ahead n) ns m h a) b)
-
-head_only : (ms : List Mark) → Sorted ms → (p : Passed) → Told ms p → head_of ms ≡ Some p
-head_only [] h p t = absurd t.1
-head_only (n ∷ ns) h p t = told_first n ns h.0 p t.0 t.1 t.2.0 t.3 t.4
-
--- and only that one is
-pub first_only : (o : Outline) (low high : ℕ) → Nested o low high → (p : Passed) → Told (marks o 0) p → first o ≡ Some p
-first_only o low high h p t = first_is o 0 ∙ head_only (marks o 0) (in_order o 0 low high h).1 p t
+pub rising : (o : Outline) → Rising (marked o)
+rising none = tt {0}
+rising (join a b) = (rising a, rising b)
+rising (node at kind over parts) = (broken_rises kind over (height parts), rising parts)

@@ -2,8 +2,8 @@
 use Rattle.std.proofs.Common.{◌≡◌, refl, None, List, [], ◌∷◌}
 use Rattle.hs_syntax.specs.declared.span.Span.{Span}
 use Rattle.hs_limits.specs.Nodes.{names}
-use Rattle.hs_limits.specs.Walk.{first}
+use Rattle.hs_limits.specs.Walk.{first_in}
 
-pub no_name : (ss : List Span) → first (names ss) ≡ None
+pub no_name : (ss : List Span) → first_in (names ss) ≡ None
 no_name [] = refl
 no_name (s ∷ ss) = no_name ss

@@ -1,6 +1,6 @@
 -- Nodes lie where they should: each has a byte at least, its parts lie in it, and one behind the other.
 use Rattle.std.specs.Prelude.{ℕ, ◌<◌, ◌≤◌}
-use Rattle.hs_syntax.specs.declared.item.File.{File}
+use Rattle.hs_syntax.specs.declared.file.File.{File}
 use Rattle.hs_limits.specs.Outline.{Outline, none, join, node}
 use Rattle.hs_limits.specs.Nodes.{outline_of}
 

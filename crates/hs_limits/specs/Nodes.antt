@@ -13,14 +13,17 @@ use Rattle.hs_syntax.specs.declared.exp.Path.{Path}
 use Rattle.hs_syntax.specs.declared.exp.Path.TheVariants as path
 use Rattle.hs_syntax.specs.declared.exp.Exp.{Exp, fold-Exp}
 use Rattle.hs_syntax.specs.declared.exp.Arg.{Arg, fold-Arg}
-use Rattle.hs_syntax.specs.declared.exp.Arg.TheOpen.{Exp-F, Arg-F, Postfix-F, Stmt-F, Arm-F, Block-F, Operand-F}
+use Rattle.hs_syntax.specs.declared.exp.Arg.TheOpen.{Exp-F, Arg-F, Else-F, Postfix-F, Step-F, Stmt-F, Arm-F, Block-F, If-F, Operand-F}
 use Rattle.hs_syntax.specs.declared.exp.Arg.TheOpen as exp
+use Rattle.hs_syntax.specs.declared.exp.Else.{Else, fold-Else}
+use Rattle.hs_syntax.specs.declared.exp.If.{If, fold-If}
 use Rattle.hs_syntax.specs.declared.exp.Postfix.{Postfix, fold-Postfix}
+use Rattle.hs_syntax.specs.declared.exp.Step.{Step, fold-Step}
 use Rattle.hs_syntax.specs.declared.exp.Block.{Block, fold-Block}
 use Rattle.hs_syntax.specs.declared.exp.Stmt.{Stmt, fold-Stmt}
 use Rattle.hs_syntax.specs.declared.exp.Arm.{Arm, fold-Arm}
 use Rattle.hs_syntax.specs.declared.exp.Operand.{Operand, fold-Operand}
-use Rattle.hs_syntax.specs.declared.item.File.{File}
+use Rattle.hs_syntax.specs.declared.file.File.{File}
 use Rattle.hs_syntax.specs.declared.item.Item.{Item}
 use Rattle.hs_syntax.specs.declared.item.Ctor.{Ctor}
 use Rattle.hs_syntax.specs.declared.item.Param.{Param}
@@ -87,7 +90,7 @@ node_of_path (path.Member s t n) = flat s (join (name t) (name n))
 node_of_path (path.Of s n t m) = flat s (join (name n) (join (ty_outline t) (name m)))
 
 -- what groups to the left has a node for each operator, step or `as`
-abbrev pub exp_layer : Exp-F Node Node Node Node Node Node Node → Node
+abbrev pub exp_layer : Exp-F Node Node Node Node Node Node Node Node Node Node → Node
 exp_layer (exp.Int i) = tall i.span none
 exp_layer (exp.Bool s b) = tall s none
 exp_layer (exp.Unit s) = tall s none
@@ -96,7 +99,7 @@ exp_layer (exp.Tuple s es) = tall s (upto 12 part es)
 exp_layer (exp.Path p) = tall (span_of_path p) (one (node_of_path p))
 exp_layer (exp.Call s p as') = tall s (join (one (node_of_path p)) (all as'))
 exp_layer (exp.Block b) = b
-exp_layer (exp.If s c b o) = tall s (join (one c) (join (one b) (maybe o)))
+exp_layer (exp.If i) = i
 exp_layer (exp.Match s e arms) = tall s (join (one e) (all arms))
 exp_layer (exp.Post s e ps) = wrap s (chain s.start (one e) ps)
 exp_layer (exp.Prefix s o e) = tall s (one e)
@@ -104,19 +107,31 @@ exp_layer (exp.Cast s e ns) = wrap s (chain s.start (one e) (map word ns))
 exp_layer (exp.Binary s e os) = wrap s (chain s.start (one e) os)
 
 -- an argument is no node of a height, a lent name has height 1
-abbrev pub arg_layer : Arg-F Node Node Node Node Node Node Node → Node
+abbrev pub arg_layer : Arg-F Node Node Node Node Node Node Node Node Node Node → Node
 arg_layer (exp.Value e) = e
 arg_layer (exp.Shared s e) = wrap s (one e)
 arg_layer (exp.Lent s n) = wrap s (one (tall n none))
 arg_layer (exp.List s es) = wrap s (all es)
 
-abbrev pub postfix_layer : Postfix-F Node Node Node Node Node Node Node → Node
+-- an `if` is an expression, also behind `else`
+abbrev pub if_layer : If-F Node Node Node Node Node Node Node Node Node Node → Node
+if_layer i = tall i.span (join (one i.condition) (join (one i.then) (maybe i.otherwise)))
+
+-- what stands behind `else`
+abbrev pub else_layer : Else-F Node Node Node Node Node Node Node Node Node Node → Node
+else_layer (exp.Chain i) = i
+else_layer (exp.Last b) = b
+
+abbrev pub step_layer : Step-F Node Node Node Node Node Node Node Node Node Node → Node
+step_layer (exp.Index s e) = wrap s (one e)
+step_layer (exp.Part s i) = wrap s (name i.span)
+
+abbrev pub postfix_layer : Postfix-F Node Node Node Node Node Node Node Node Node Node → Node
 postfix_layer (exp.Try s) = wrap s none
 postfix_layer (exp.Method s n as') = wrap s (join (name n) (all as'))
-postfix_layer (exp.Index s e) = wrap s (one e)
-postfix_layer (exp.Part s i) = wrap s (name i.span)
+postfix_layer (exp.Step t) = t
 
-abbrev pub stmt_layer : Stmt-F Node Node Node Node Node Node Node → Node
+abbrev pub stmt_layer : Stmt-F Node Node Node Node Node Node Node Node Node Node → Node
 stmt_layer (exp.Let s p t e) = tall s (join (one (node_of_pat p)) (join (optional_ty t) (one e)))
 stmt_layer (exp.Assign s t ps o e) = tall s (join (one (wrap t.span (join (name t.name) (all ps)))) (one e))
 stmt_layer (exp.For s x e f b) = tall s (join (name (span_of_variable x)) (join (one e) (join (one f) (one b))))
@@ -125,36 +140,45 @@ stmt_layer (exp.Bare e) = tall e.at (one e)
 stmt_layer (exp.Exp s e) = tall s (one e)
 
 -- an arm is no node of a height
-abbrev pub arm_layer : Arm-F Node Node Node Node Node Node Node → Node
+abbrev pub arm_layer : Arm-F Node Node Node Node Node Node Node Node Node Node → Node
 arm_layer a = wrap a.span (join (one (node_of_arm_pat a.pattern)) (one a.value))
 
 -- a block has at most 1,024 statements
-abbrev pub block_layer : Block-F Node Node Node Node Node Node Node → Node
+abbrev pub block_layer : Block-F Node Node Node Node Node Node Node Node Node Node → Node
 block_layer b = tall b.span (join (upto 1024 statement b.statements) (maybe b.tail))
 
-abbrev pub operand_layer : Operand-F Node Node Node Node Node Node Node → Node
+abbrev pub operand_layer : Operand-F Node Node Node Node Node Node Node Node Node Node → Node
 operand_layer o = o.right
 
 abbrev pub node_of_exp : Exp → Node
-node_of_exp = fold-Exp Node Node Node Node Node Node Node arg_layer exp_layer postfix_layer stmt_layer arm_layer block_layer operand_layer
+node_of_exp = fold-Exp Node Node Node Node Node Node Node Node Node Node arg_layer else_layer exp_layer postfix_layer step_layer stmt_layer arm_layer block_layer if_layer operand_layer
 
 abbrev pub node_of_arg : Arg → Node
-node_of_arg = fold-Arg Node Node Node Node Node Node Node arg_layer exp_layer postfix_layer stmt_layer arm_layer block_layer operand_layer
+node_of_arg = fold-Arg Node Node Node Node Node Node Node Node Node Node arg_layer else_layer exp_layer postfix_layer step_layer stmt_layer arm_layer block_layer if_layer operand_layer
 
 abbrev pub node_of_postfix : Postfix → Node
-node_of_postfix = fold-Postfix Node Node Node Node Node Node Node arg_layer exp_layer postfix_layer stmt_layer arm_layer block_layer operand_layer
+node_of_postfix = fold-Postfix Node Node Node Node Node Node Node Node Node Node arg_layer else_layer exp_layer postfix_layer step_layer stmt_layer arm_layer block_layer if_layer operand_layer
+
+abbrev pub node_of_step : Step → Node
+node_of_step = fold-Step Node Node Node Node Node Node Node Node Node Node arg_layer else_layer exp_layer postfix_layer step_layer stmt_layer arm_layer block_layer if_layer operand_layer
+
+abbrev pub node_of_if : If → Node
+node_of_if = fold-If Node Node Node Node Node Node Node Node Node Node arg_layer else_layer exp_layer postfix_layer step_layer stmt_layer arm_layer block_layer if_layer operand_layer
+
+abbrev pub node_of_else : Else → Node
+node_of_else = fold-Else Node Node Node Node Node Node Node Node Node Node arg_layer else_layer exp_layer postfix_layer step_layer stmt_layer arm_layer block_layer if_layer operand_layer
 
 abbrev pub node_of_stmt : Stmt → Node
-node_of_stmt = fold-Stmt Node Node Node Node Node Node Node arg_layer exp_layer postfix_layer stmt_layer arm_layer block_layer operand_layer
+node_of_stmt = fold-Stmt Node Node Node Node Node Node Node Node Node Node arg_layer else_layer exp_layer postfix_layer step_layer stmt_layer arm_layer block_layer if_layer operand_layer
 
 abbrev pub node_of_arm : Arm → Node
-node_of_arm = fold-Arm Node Node Node Node Node Node Node arg_layer exp_layer postfix_layer stmt_layer arm_layer block_layer operand_layer
+node_of_arm = fold-Arm Node Node Node Node Node Node Node Node Node Node arg_layer else_layer exp_layer postfix_layer step_layer stmt_layer arm_layer block_layer if_layer operand_layer
 
 abbrev pub node_of_block : Block → Node
-node_of_block = fold-Block Node Node Node Node Node Node Node arg_layer exp_layer postfix_layer stmt_layer arm_layer block_layer operand_layer
+node_of_block = fold-Block Node Node Node Node Node Node Node Node Node Node arg_layer else_layer exp_layer postfix_layer step_layer stmt_layer arm_layer block_layer if_layer operand_layer
 
 abbrev pub node_of_operand : Operand → Node
-node_of_operand = fold-Operand Node Node Node Node Node Node Node arg_layer exp_layer postfix_layer stmt_layer arm_layer block_layer operand_layer
+node_of_operand = fold-Operand Node Node Node Node Node Node Node Node Node Node arg_layer else_layer exp_layer postfix_layer step_layer stmt_layer arm_layer block_layer if_layer operand_layer
 
 -- a constructor has at most 12 parts
 abbrev pub node_of_ctor : Ctor → Node
@@ -178,6 +202,10 @@ kind_outline (item.NatMod n c i m) = join (name n) (join (name c) (join (name i.
 abbrev pub node_of_item : Item → Node
 node_of_item i = wrap i.span (join (names i.derives) (kind_outline i.kind))
 
--- the nodes of a file: its items in order
+-- the nodes of items, in order
+abbrev pub outline_of_items : List Item → Outline
+outline_of_items items = all (map node_of_item items)
+
+-- the nodes of a file
 abbrev pub outline_of : File → Outline
-outline_of f = all (map node_of_item f.items)
+outline_of f = outline_of_items f.items

@@ -1,35 +1,13 @@
--- The first rule that is broken on the way through a tree, and the heights on the way.
-use Rattle.std.specs.Prelude.{ℕ, suc, ◌≡◌, max, Bool, false, cond, ltb, nat_eq, Option, Some, None, List, [], ◌∷◌, Result, Ok, Err}
-use Rattle.hs_base.specs.declared.rule.Rule.{Rule}
-use Rattle.hs_base.specs.declared.rule.Rule.TheVariants.{S2, S4, S6, S8}
+-- What is broken first on the way through a tree, and the heights on the way.
+use Rattle.std.specs.Prelude.{ℕ, suc, ◌≡◌, max, Bool, false, nat_eq, Option, Some, None, List, [], ◌∷◌, Result}
 use Rattle.hs_syntax.specs.declared.span.Span.{Span}
-use Rattle.hs_limits.specs.declared.passed.Passed.{Passed}
-use Rattle.hs_limits.specs.Outline.{Outline, Node, Kind, Surplus, none, join, node, counted, through, apart, parameter, statement, part, one, all, upto}
-
-abbrev pub or_else : Option Passed → Option Passed → Option Passed
-or_else None q = q
-or_else (Some p) q = Some p
-
--- what is broken in the parts of a node, else what it breaks itself
-abbrev pub or_own : Option Passed → Option Passed → Option Passed
-or_own p None = p
-or_own None (Some q) = Some q
-or_own (Some p) (Some q) = Some p
-
-abbrev pub passes : Span → Rule → Option Passed
-passes at rule = Some (record { rule = rule; span = at })
-
--- a node over parts of this height
-abbrev pub first_high : Span → Kind → ℕ → Option Passed
-first_high at counted h = cond (ltb h 64) None (passes at S2)
-first_high at through h = None
-first_high at apart h = None
-
-abbrev pub first_many : Span → Option Surplus → Option Passed
-first_many at None = None
-first_many at (Some parameter) = passes at S4
-first_many at (Some statement) = passes at S6
-first_many at (Some part) = passes at S8
+use Rattle.hs_marks.specs.declared.breach.Breach.{Breach}
+use Rattle.hs_marks.specs.Marked as m
+use Rattle.hs_marks.specs.Marked.{Marked}
+use Rattle.hs_marks.specs.First.{first, breach, or_else}
+use Rattle.hs_marks.specs.Says.{Says}
+use Rattle.hs_limits.specs.Outline.{Outline, Node, Surplus, none, join, node, counted, through, apart, one, all, upto}
+use Rattle.hs_limits.specs.Told.{broken}
 
 -- the greater of a height and those of a row
 abbrev pub high : Outline → ℕ → ℕ
@@ -39,10 +17,18 @@ high (node at counted over parts) h = max h (suc (high parts 0))
 high (node at through over parts) h = high parts h
 high (node at apart over parts) h = h
 
-abbrev pub first : Outline → Option Passed
-first none = None
-first (join a b) = or_else (first a) (first b)
-first (node at kind over parts) = or_own (first parts) (or_else (first_high at kind (high parts 0)) (first_many at over))
+-- the rules that each node breaks, by the heights on the way
+abbrev pub walked : Outline → Marked
+walked none = m.none
+walked (join a b) = m.join (walked a) (walked b)
+walked (node at kind over parts) = m.node at (broken kind over (high parts 0)) (walked parts)
+
+abbrev pub first_in : Outline → Option Breach
+first_in o = first (walked o)
+
+-- a walk that begins with a height gives the greater of it and the row's, where nothing is broken
+abbrev pub Gives : Outline → ℕ → Result ℕ Breach → Type 0
+Gives o before result = Says (first_in o) (λ h. h ≡ high o before) result
 
 -- an item's number is the limit
 abbrev pub is_limit : Option ℕ → ℕ → Bool
@@ -58,20 +44,15 @@ listed (Some limit) what ns = upto limit what ns
 abbrev pub reach : ℕ → Node → Span
 reach start n = record { start = start; end = n.at.end }
 
+-- what an expression, a statement or a block over parts of this height breaks
+abbrev pub first_high : Span → ℕ → Option Breach
+first_high at h = breach at (broken counted None h)
+
 -- what is added one by one behind a node of this height, from this place on
 abbrev pub high_chain : List Node → ℕ → ℕ
 high_chain [] h = h
 high_chain (n ∷ ns) h = high_chain ns (suc (high (one n) h))
 
-abbrev pub first_chain : ℕ → List Node → ℕ → Option Passed
+abbrev pub first_chain : ℕ → List Node → ℕ → Option Breach
 first_chain start [] h = None
-first_chain start (n ∷ ns) h = or_else (first (one n)) (or_else (first_high (reach start n) counted (high (one n) h)) (first_chain start ns (suc (high (one n) h))))
-
--- a height where no rule is broken, else the first broken one
-abbrev pub Says : Option Passed → ℕ → Result ℕ Passed → Type 0
-Says told h (Ok k) = (told ≡ None) × (k ≡ h)
-Says told h (Err p) = told ≡ Some p
-
-abbrev pub SaysNone : {A : Type 0} → Option Passed → Result A Passed → Type 0
-SaysNone told (Ok a) = told ≡ None
-SaysNone told (Err p) = told ≡ Some p
+first_chain start (n ∷ ns) h = or_else (first_in (one n)) (or_else (first_high (reach start n) (high (one n) h)) (first_chain start ns (suc (high (one n) h))))

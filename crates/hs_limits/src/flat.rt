@@ -1,12 +1,13 @@
 //! Types, patterns and paths, which have no height: the lengths of their tuples.
 
 ghost use Rattle.std.specs.Prelude.{◌≡◌, map};
+ghost use Rattle.hs_marks.specs.Says.{SaysNone};
 ghost use Rattle.hs_limits.specs.Outline.{one, part};
 ghost use Rattle.hs_limits.specs.Nodes.{ty_outline, optional_ty, node_of_ty, node_of_pat, node_of_arm_pat, node_of_path};
-ghost use Rattle.hs_limits.specs.Walk.{SaysNone, first, is_limit, listed};
+ghost use Rattle.hs_limits.specs.Walk.{first_in, is_limit, listed};
 
-use crate::passed::Passed;
 use hs_base::rule::Rule;
+use hs_marks::{Breach, refuse_if};
 use hs_syntax::{ArmPat, Pat, Path, Ty};
 use sqlite_items::Items;
 
@@ -29,8 +30,8 @@ pub fn is_past(limit: Option<usize>, before: usize) -> bool
 ///
 /// The first part of a tuple past the limit.
 #[cycle(ty)]
-pub fn ty(ty: &Ty) -> Result<(), Passed>
-    ensures { SaysNone (first (ty_outline ty.now)) result }
+pub fn ty(ty: &Ty) -> Result<(), Breach>
+    ensures { SaysNone (first_in (ty_outline ty.now)) result }
 {
     match ty {
         Ty::Name(_) | Ty::Unit(_) => Ok(()),
@@ -45,17 +46,12 @@ pub fn ty(ty: &Ty) -> Result<(), Passed>
 ///
 /// The first type past the limit, or what is passed before in one of them.
 #[cycle(ty)]
-pub fn tys(tys: &Items<Ty>, limit: Option<usize>) -> Result<(), Passed>
-    ensures { SaysNone (first (listed limit part (map node_of_ty tys.now))) result }
+pub fn tys(tys: &Items<Ty>, limit: Option<usize>) -> Result<(), Breach>
+    ensures { SaysNone (first_in (listed limit part (map node_of_ty tys.now))) result }
 {
     for (index, part) in tys.as_slice().iter().enumerate() {
         ty(part)?;
-        if is_past(limit, index) {
-            return Err(Passed {
-                rule: Rule::S8,
-                span: part.span(),
-            });
-        }
+        refuse_if(is_past(limit, index), Rule::S8, part.span())?;
     }
     Ok(())
 }
@@ -65,8 +61,8 @@ pub fn tys(tys: &Items<Ty>, limit: Option<usize>) -> Result<(), Passed>
 /// # Errors
 ///
 /// The first part of a tuple past the limit.
-pub fn optional_type(type_: &Option<Ty>) -> Result<(), Passed>
-    ensures { SaysNone (first (optional_ty type_.now)) result }
+pub fn optional_type(type_: &Option<Ty>) -> Result<(), Breach>
+    ensures { SaysNone (first_in (optional_ty type_.now)) result }
 {
     match type_ {
         None => Ok(()),
@@ -80,8 +76,8 @@ pub fn optional_type(type_: &Option<Ty>) -> Result<(), Passed>
 ///
 /// The first part of a tuple past the limit.
 #[cycle(pat)]
-pub fn pat(pat: &Pat) -> Result<(), Passed>
-    ensures { SaysNone (first (one (node_of_pat pat.now))) result }
+pub fn pat(pat: &Pat) -> Result<(), Breach>
+    ensures { SaysNone (first_in (one (node_of_pat pat.now))) result }
 {
     match pat {
         Pat::Name(_, _, _) | Pat::Any(_) => Ok(()),
@@ -96,17 +92,12 @@ pub fn pat(pat: &Pat) -> Result<(), Passed>
 ///
 /// The first pattern past the limit, or what is passed before in one of them.
 #[cycle(pat)]
-fn pats(pats: &Items<Pat>, limit: Option<usize>) -> Result<(), Passed>
-    ensures { SaysNone (first (listed limit part (map node_of_pat pats.now))) result }
+fn pats(pats: &Items<Pat>, limit: Option<usize>) -> Result<(), Breach>
+    ensures { SaysNone (first_in (listed limit part (map node_of_pat pats.now))) result }
 {
     for (index, part) in pats.as_slice().iter().enumerate() {
         pat(part)?;
-        if is_past(limit, index) {
-            return Err(Passed {
-                rule: Rule::S8,
-                span: part.span(),
-            });
-        }
+        refuse_if(is_past(limit, index), Rule::S8, part.span())?;
     }
     Ok(())
 }
@@ -116,8 +107,8 @@ fn pats(pats: &Items<Pat>, limit: Option<usize>) -> Result<(), Passed>
 /// # Errors
 ///
 /// The first part of a tuple past the limit.
-pub fn arm_pat(pattern: &ArmPat) -> Result<(), Passed>
-    ensures { SaysNone (first (one (node_of_arm_pat pattern.now))) result }
+pub fn arm_pat(pattern: &ArmPat) -> Result<(), Breach>
+    ensures { SaysNone (first_in (one (node_of_arm_pat pattern.now))) result }
 {
     match pattern {
         ArmPat::Any(_) => Ok(()),
@@ -130,8 +121,8 @@ pub fn arm_pat(pattern: &ArmPat) -> Result<(), Passed>
 /// # Errors
 ///
 /// The first part of a tuple past the limit, in the type that the path has.
-pub fn path(path: &Path) -> Result<(), Passed>
-    ensures { SaysNone (first (one (node_of_path path.now))) result }
+pub fn path(path: &Path) -> Result<(), Breach>
+    ensures { SaysNone (first_in (one (node_of_path path.now))) result }
 {
     match path {
         Path::Name(_) | Path::Member(_, _, _) => Ok(()),

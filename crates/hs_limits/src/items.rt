@@ -1,17 +1,19 @@
 //! Items and files.
 
 ghost use Rattle.std.specs.Prelude.{◌≡◌, Some, map};
-ghost use Rattle.hs_limits.specs.declared.passed.Passed.{Passed};
+ghost use Rattle.hs_marks.specs.declared.breach.Breach.{Breach};
+ghost use Rattle.hs_marks.specs.Says.{SaysNone};
+ghost use Rattle.hs_marks.specs.Told.{Answers, Told};
 ghost use Rattle.hs_limits.specs.Outline.{one, all, upto, part, parameter};
 ghost use Rattle.hs_limits.specs.Nested.{NestedFile};
 ghost use Rattle.hs_limits.specs.Nodes.{kind_outline, node_of_item, node_of_ctor, node_of_param};
-ghost use Rattle.hs_limits.specs.Told.{Answers, HeightsAgree, Told, marks_of};
-ghost use Rattle.hs_limits.specs.Walk.{SaysNone, first};
+ghost use Rattle.hs_limits.specs.Told.{HeightsAgree, marks_of};
+ghost use Rattle.hs_limits.specs.Walk.{first_in};
 
 use crate::flat::{PARTS, is_past, optional_type, ty, tys};
-use crate::passed::Passed;
 use crate::walk::{block, exp};
 use hs_base::rule::Rule;
+use hs_marks::{Breach, first_is_told, refuse_if};
 use hs_syntax::{Ctor, File, Item, ItemKind, Param};
 use sqlite_items::Items;
 
@@ -31,15 +33,16 @@ const CONSTRUCTORS: usize = 256;
 ///
 /// It takes time in proportion to the tree's size and no memory. It recurses as deep as brackets, prefixes and blocks nest in
 /// the text, and who makes the tree bounds that.
-pub fn limits(file: &File) -> Option<Passed>
+pub fn limits(file: &File) -> Option<Breach>
     requires { NestedFile file.now }
     ensures told { Answers (marks_of file.now) result }
-    ensures only { (p : Passed) → Told (marks_of file.now) p → result ≡ Some p }
+    ensures only { (b : Breach) → Told (marks_of file.now) b → result ≡ Some b }
     ensures heights { HeightsAgree }
 {
+    first_is_told();
     match items(&file.items) {
         Ok(()) => None,
-        Err(passed) => Some(passed),
+        Err(breach) => Some(breach),
     }
 }
 
@@ -48,8 +51,8 @@ pub fn limits(file: &File) -> Option<Passed>
 /// # Errors
 ///
 /// The limit that is passed first.
-pub fn items(items: &Items<Item>) -> Result<(), Passed>
-    ensures { SaysNone (first (all (map node_of_item items.now))) result }
+pub fn items(items: &Items<Item>) -> Result<(), Breach>
+    ensures { SaysNone (first_in (all (map node_of_item items.now))) result }
 {
     for next in items.as_slice() {
         item(next)?;
@@ -59,15 +62,15 @@ pub fn items(items: &Items<Item>) -> Result<(), Passed>
 
 /// Looks over an item.
 #[tactic(auto, using(crate::proofs::Words::no_name))]
-fn item(item: &Item) -> Result<(), Passed>
-    ensures { SaysNone (first (one (node_of_item item.now))) result }
+fn item(item: &Item) -> Result<(), Breach>
+    ensures { SaysNone (first_in (one (node_of_item item.now))) result }
 {
     kind(&item.kind)
 }
 
 /// Looks over what an item declares.
-fn kind(kind: &ItemKind) -> Result<(), Passed>
-    ensures { SaysNone (first (kind_outline kind.now)) result }
+fn kind(kind: &ItemKind) -> Result<(), Breach>
+    ensures { SaysNone (first_in (kind_outline kind.now)) result }
 {
     match kind {
         ItemKind::Use | ItemKind::Bytes(_, _) | ItemKind::NatMod(_, _, _, _) => Ok(()),
@@ -89,33 +92,23 @@ fn kind(kind: &ItemKind) -> Result<(), Passed>
 }
 
 /// Looks over the constructors of an enum.
-fn ctors(ctors: &Items<Ctor>) -> Result<(), Passed>
-    ensures { SaysNone (first (upto 256 part (map node_of_ctor ctors.now))) result }
+fn ctors(ctors: &Items<Ctor>) -> Result<(), Breach>
+    ensures { SaysNone (first_in (upto 256 part (map node_of_ctor ctors.now))) result }
 {
     for (index, ctor) in ctors.as_slice().iter().enumerate() {
         tys(&ctor.parts, Some(PARTS))?;
-        if is_past(Some(CONSTRUCTORS), index) {
-            return Err(Passed {
-                rule: Rule::S8,
-                span: ctor.span,
-            });
-        }
+        refuse_if(is_past(Some(CONSTRUCTORS), index), Rule::S8, ctor.span)?;
     }
     Ok(())
 }
 
 /// Looks over the parameters of a function.
-fn params(params: &Items<Param>) -> Result<(), Passed>
-    ensures { SaysNone (first (upto 32 parameter (map node_of_param params.now))) result }
+fn params(params: &Items<Param>) -> Result<(), Breach>
+    ensures { SaysNone (first_in (upto 32 parameter (map node_of_param params.now))) result }
 {
     for (index, param) in params.as_slice().iter().enumerate() {
         ty(&param.ty)?;
-        if is_past(Some(PARAMETERS), index) {
-            return Err(Passed {
-                rule: Rule::S4,
-                span: param.span,
-            });
-        }
+        refuse_if(is_past(Some(PARAMETERS), index), Rule::S4, param.span)?;
     }
     Ok(())
 }

@@ -3,12 +3,13 @@
 
 mod agree;
 mod flat;
+mod height;
 mod items;
-mod passed;
 #[cfg(test)]
 mod tests;
+mod told;
 mod walk;
 
 pub use agree::spans_agree;
 pub use items::limits;
-pub use passed::Passed;
+pub use told::one_is_told;

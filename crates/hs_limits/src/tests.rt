@@ -4,13 +4,13 @@ ghost use Rattle.std.specs.Prelude.{◌≤◌};
 
 use crate::flat::{pat, ty};
 use crate::items::{items, limits};
-use crate::passed::Passed;
 use crate::walk::{block, exp};
 use hs_base::memory::NoMemory;
 use hs_base::rule::Rule;
+use hs_marks::Breach;
 use hs_syntax::{
     Arg, BinaryOp, Block, Ctor, Exp, File, Int, Item, ItemKind, Mode, Operand, Param, Pat, Path,
-    Span, Stmt, Ty,
+    Span, Stmt, Text, Ty,
 };
 use sqlite_items::{Boxed, Items};
 use std::alloc::Global;
@@ -27,8 +27,8 @@ fn int(span: Span) -> Exp {
     })
 }
 
-fn passed(rule: Rule, start: u32, end: u32) -> Passed {
-    Passed {
+fn passed(rule: Rule, start: u32, end: u32) -> Breach {
+    Breach {
         rule,
         span: span(start, end),
     }
@@ -103,7 +103,7 @@ fn call(alloc: Global, given: u32) -> Result<Exp, NoMemory>
 }
 
 /// What an expression passes, or its height.
-fn seen(exp: Exp) -> Result<u32, Passed> {
+fn seen(exp: Exp) -> Result<u32, Breach> {
     self::exp(&exp, 0)
 }
 
@@ -157,7 +157,7 @@ fn types(alloc: Global, start: u32, parts: u32) -> Result<Items<Ty>, NoMemory>
 }
 
 /// What a type passes.
-fn seen_type(type_: Ty) -> Result<(), Passed> {
+fn seen_type(type_: Ty) -> Result<(), Breach> {
     ty(&type_)
 }
 
@@ -193,7 +193,7 @@ fn patterns(alloc: Global, start: u32, parts: u32) -> Result<Items<Pat>, NoMemor
 }
 
 /// What a pattern passes.
-fn seen_pattern(pattern: Pat) -> Result<(), Passed> {
+fn seen_pattern(pattern: Pat) -> Result<(), Breach> {
     pat(&pattern)
 }
 
@@ -228,7 +228,7 @@ fn seen_block(
     alloc: Global,
     statements: Items<Stmt>,
     tail: u32,
-) -> Result<Result<u32, Passed>, NoMemory>
+) -> Result<Result<u32, Breach>, NoMemory>
     requires { tail ≤ 10000 }
 {
     let unit = Boxed::new(alloc, Exp::Unit(span(tail, tail + 2)))?;
@@ -343,7 +343,7 @@ fn function(alloc: Global, count: u32) -> Result<ItemKind, NoMemory>
 }
 
 /// What the file with this item alone, from byte 0 on, passes.
-fn passed_by(alloc: Global, kind: ItemKind) -> Result<Result<(), Passed>, NoMemory> {
+fn passed_by(alloc: Global, kind: ItemKind) -> Result<Result<(), Breach>, NoMemory> {
     let mut list = Items::new(alloc);
     list.push(Item {
         span: span(0, 10000),
@@ -411,6 +411,7 @@ fn block_over_63_pairs_is_told(rt: HostRuntime) -> Result<(), NoMemory> {
 fn an_empty_file_passes_none(rt: HostRuntime) -> Result<(), NoMemory> {
     let alloc = rt.alloc();
     let file = File {
+        text: Text::of(alloc, b"")?,
         items: Items::new(alloc),
     };
     assert_eq!(rt; limits(&file), None);

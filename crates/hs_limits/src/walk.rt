@@ -4,14 +4,16 @@
 //! found once, from the inside out. The calls recurse as deep as brackets, prefixes and blocks nest in the text.
 
 ghost use Rattle.std.specs.Prelude.{◌≡◌, suc, map, option_map};
-ghost use Rattle.hs_limits.specs.Outline.{counted, one, maybe, all, upto, part, statement};
-ghost use Rattle.hs_limits.specs.Nodes.{word, node_of_exp, node_of_arg, node_of_postfix, node_of_stmt, node_of_arm, node_of_block, node_of_operand};
-ghost use Rattle.hs_limits.specs.Walk.{Says, first, first_high, high, first_chain, high_chain, listed};
+ghost use Rattle.hs_marks.specs.Says.{Says};
+ghost use Rattle.hs_limits.specs.Outline.{one, maybe, all, upto, part, statement};
+ghost use Rattle.hs_limits.specs.Nodes.{word, node_of_exp, node_of_if, node_of_else, node_of_arg, node_of_postfix, node_of_step, node_of_stmt, node_of_arm, node_of_block, node_of_operand};
+ghost use Rattle.hs_limits.specs.Walk.{Gives, first_high, first_chain, high_chain, listed};
 
 use crate::flat::{PARTS, arm_pat, is_past, optional_type, pat, path};
-use crate::passed::{Passed, one_more, settle};
+use crate::height::{one_more, settle};
 use hs_base::rule::Rule;
-use hs_syntax::{Arg, Arm, Block, Exp, Operand, Postfix, Span, Stmt};
+use hs_marks::{Breach, refuse_if};
+use hs_syntax::{Arg, Arm, Block, Else, Exp, If, Operand, Postfix, Span, Step, Stmt};
 use sqlite_items::{Boxed, Items};
 
 /// The greatest number of statements of a block.
@@ -22,8 +24,8 @@ const STATEMENTS: usize = 1024;
 /// # Errors
 ///
 /// The node, where it is too high.
-fn behind(start: u32, last: Span, parts: u32) -> Result<u32, Passed>
-    ensures { Says (first_high (record { start = start; end = last.end }) counted parts) (suc parts) result }
+fn behind(start: u32, last: Span, parts: u32) -> Result<u32, Breach>
+    ensures { Says (first_high (record { start = start; end = last.end }) parts) (λ height. height ≡ suc parts) result }
 {
     one_more(
         Span {
@@ -40,8 +42,8 @@ fn behind(start: u32, last: Span, parts: u32) -> Result<u32, Passed>
 ///
 /// The limit that is passed first.
 #[cycle(walk)]
-pub fn exp(exp: &Exp, before: u32) -> Result<u32, Passed>
-    ensures { Says (first (one (node_of_exp exp.now))) (high (one (node_of_exp exp.now)) before) result }
+pub fn exp(exp: &Exp, before: u32) -> Result<u32, Breach>
+    ensures { Gives (one (node_of_exp exp.now)) before result }
 {
     match exp {
         Exp::Int(_) | Exp::Bool(_, _) | Exp::Unit(_) => Ok(before.max(1)),
@@ -58,11 +60,7 @@ pub fn exp(exp: &Exp, before: u32) -> Result<u32, Passed>
             settle(*span, args(given, 0)?, before)
         }
         Exp::Block(inner) => block(inner.get(), before),
-        Exp::If(span, condition, then, otherwise) => {
-            let condition = self::exp(condition.get(), 0)?;
-            let then = block(then.get(), condition)?;
-            settle(*span, optional(otherwise, then)?, before)
-        }
+        Exp::If(branches) => if_(branches.get(), before),
         Exp::Match(span, scrutinee, list) => {
             let scrutinee = self::exp(scrutinee.get(), 0)?;
             settle(*span, arms(list, scrutinee)?, before)
@@ -82,10 +80,32 @@ pub fn exp(exp: &Exp, before: u32) -> Result<u32, Passed>
     }
 }
 
+/// Looks over an `if`.
+#[cycle(walk)]
+fn if_(branches: &If, before: u32) -> Result<u32, Breach>
+    ensures { Gives (one (node_of_if branches.now)) before result }
+{
+    let condition = exp(&branches.condition, 0)?;
+    let then = block(&branches.then, condition)?;
+    settle(branches.span, otherwise(&branches.otherwise, then)?, before)
+}
+
+/// Looks over what stands behind `else`, where anything does.
+#[cycle(walk)]
+fn otherwise(branch: &Option<Else>, before: u32) -> Result<u32, Breach>
+    ensures { Gives (maybe (option_map node_of_else branch.now)) before result }
+{
+    match branch {
+        None => Ok(before),
+        Some(Else::Chain(branches)) => if_(branches.get(), before),
+        Some(Else::Last(last)) => block(last.get(), before),
+    }
+}
+
 /// Looks over an expression that may be missing.
 #[cycle(walk)]
-fn optional(exp: &Option<Boxed<Exp>>, before: u32) -> Result<u32, Passed>
-    ensures { Says (first (maybe (option_map node_of_exp exp.now))) (high (maybe (option_map node_of_exp exp.now)) before) result }
+fn optional(exp: &Option<Boxed<Exp>>, before: u32) -> Result<u32, Breach>
+    ensures { Gives (maybe (option_map node_of_exp exp.now)) before result }
 {
     match exp {
         None => Ok(before),
@@ -95,26 +115,21 @@ fn optional(exp: &Option<Boxed<Exp>>, before: u32) -> Result<u32, Passed>
 
 /// Looks over a list of expressions, with a limit on how many there are or without.
 #[cycle(walk)]
-fn exps(exps: &Items<Exp>, limit: Option<usize>, before: u32) -> Result<u32, Passed>
-    ensures { Says (first (listed limit part (map node_of_exp exps.now))) (high (listed limit part (map node_of_exp exps.now)) before) result }
+fn exps(exps: &Items<Exp>, limit: Option<usize>, before: u32) -> Result<u32, Breach>
+    ensures { Gives (listed limit part (map node_of_exp exps.now)) before result }
 {
     let mut highest = before;
     for (index, part) in exps.as_slice().iter().enumerate() {
         highest = exp(part, highest)?;
-        if is_past(limit, index) {
-            return Err(Passed {
-                rule: Rule::S8,
-                span: part.span(),
-            });
-        }
+        refuse_if(is_past(limit, index), Rule::S8, part.span())?;
     }
     Ok(highest)
 }
 
 /// Looks over the arguments of a call.
 #[cycle(walk)]
-fn args(args: &Items<Arg>, before: u32) -> Result<u32, Passed>
-    ensures { Says (first (all (map node_of_arg args.now))) (high (all (map node_of_arg args.now)) before) result }
+fn args(args: &Items<Arg>, before: u32) -> Result<u32, Breach>
+    ensures { Gives (all (map node_of_arg args.now)) before result }
 {
     let mut highest = before;
     for given in args.as_slice() {
@@ -125,8 +140,8 @@ fn args(args: &Items<Arg>, before: u32) -> Result<u32, Passed>
 
 /// Looks over an argument.
 #[cycle(walk)]
-fn arg(arg: &Arg, before: u32) -> Result<u32, Passed>
-    ensures { Says (first (one (node_of_arg arg.now))) (high (one (node_of_arg arg.now)) before) result }
+fn arg(arg: &Arg, before: u32) -> Result<u32, Breach>
+    ensures { Gives (one (node_of_arg arg.now)) before result }
 {
     match arg {
         Arg::Value(inner) | Arg::Shared(_, inner) => exp(inner, before),
@@ -137,8 +152,8 @@ fn arg(arg: &Arg, before: u32) -> Result<u32, Passed>
 
 /// Looks over the arms of a `match`.
 #[cycle(walk)]
-fn arms(arms: &Items<Arm>, before: u32) -> Result<u32, Passed>
-    ensures { Says (first (all (map node_of_arm arms.now))) (high (all (map node_of_arm arms.now)) before) result }
+fn arms(arms: &Items<Arm>, before: u32) -> Result<u32, Breach>
+    ensures { Gives (all (map node_of_arm arms.now)) before result }
 {
     let mut highest = before;
     for arm in arms.as_slice() {
@@ -148,22 +163,33 @@ fn arms(arms: &Items<Arm>, before: u32) -> Result<u32, Passed>
     Ok(highest)
 }
 
-/// Looks over what stands in a step behind an expression.
+/// Looks over what stands behind an expression.
 #[cycle(walk)]
-fn step(step: &Postfix, before: u32) -> Result<u32, Passed>
-    ensures { Says (first (one (node_of_postfix step.now))) (high (one (node_of_postfix step.now)) before) result }
+fn postfix(postfix: &Postfix, before: u32) -> Result<u32, Breach>
+    ensures { Gives (one (node_of_postfix postfix.now)) before result }
+{
+    match postfix {
+        Postfix::Try(_) => Ok(before),
+        Postfix::Method(_, _, given) => args(given, before),
+        Postfix::Step(inner) => step(inner, before),
+    }
+}
+
+/// Looks over a step.
+#[cycle(walk)]
+fn step(step: &Step, before: u32) -> Result<u32, Breach>
+    ensures { Gives (one (node_of_step step.now)) before result }
 {
     match step {
-        Postfix::Try(_) | Postfix::Part(_, _) => Ok(before),
-        Postfix::Method(_, _, given) => args(given, before),
-        Postfix::Index(_, inner) => exp(inner, before),
+        Step::Index(_, inner) => exp(inner, before),
+        Step::Part(_, _) => Ok(before),
     }
 }
 
 /// Looks over the steps of an assigned place.
 #[cycle(walk)]
-fn steps(steps: &Items<Postfix>, before: u32) -> Result<u32, Passed>
-    ensures { Says (first (all (map node_of_postfix steps.now))) (high (all (map node_of_postfix steps.now)) before) result }
+fn steps(steps: &Items<Step>, before: u32) -> Result<u32, Breach>
+    ensures { Gives (all (map node_of_step steps.now)) before result }
 {
     let mut highest = before;
     for next in steps.as_slice() {
@@ -174,12 +200,12 @@ fn steps(steps: &Items<Postfix>, before: u32) -> Result<u32, Passed>
 
 /// Looks over the steps behind an expression of this height: a node for each, which begins at this byte.
 #[cycle(walk)]
-fn steps_behind(steps: &Items<Postfix>, start: u32, first: u32) -> Result<u32, Passed>
-    ensures { Says (first_chain start (map node_of_postfix steps.now) first) (high_chain (map node_of_postfix steps.now) first) result }
+fn steps_behind(steps: &Items<Postfix>, start: u32, first: u32) -> Result<u32, Breach>
+    ensures { Says (first_chain start (map node_of_postfix steps.now) first) (λ height. height ≡ high_chain (map node_of_postfix steps.now) first) result }
 {
     let mut height = first;
     for next in steps.as_slice() {
-        let parts = step(next, height)?;
+        let parts = postfix(next, height)?;
         height = behind(start, next.span(), parts)?;
     }
     Ok(height)
@@ -187,8 +213,8 @@ fn steps_behind(steps: &Items<Postfix>, start: u32, first: u32) -> Result<u32, P
 
 /// Looks over the operands behind an expression of this height: a node for each, which begins at this byte.
 #[cycle(walk)]
-fn operands_behind(operands: &Items<Operand>, start: u32, first: u32) -> Result<u32, Passed>
-    ensures { Says (first_chain start (map node_of_operand operands.now) first) (high_chain (map node_of_operand operands.now) first) result }
+fn operands_behind(operands: &Items<Operand>, start: u32, first: u32) -> Result<u32, Breach>
+    ensures { Says (first_chain start (map node_of_operand operands.now) first) (λ height. height ≡ high_chain (map node_of_operand operands.now) first) result }
 {
     let mut height = first;
     for operand in operands.as_slice() {
@@ -199,8 +225,8 @@ fn operands_behind(operands: &Items<Operand>, start: u32, first: u32) -> Result<
 }
 
 /// Looks over the names behind `as`, behind an expression of this height: a node for each, which begins at this byte.
-fn names_behind(names: &Items<Span>, start: u32, first: u32) -> Result<u32, Passed>
-    ensures { Says (first_chain start (map word names.now) first) (high_chain (map word names.now) first) result }
+fn names_behind(names: &Items<Span>, start: u32, first: u32) -> Result<u32, Breach>
+    ensures { Says (first_chain start (map word names.now) first) (λ height. height ≡ high_chain (map word names.now) first) result }
 {
     let mut height = first;
     for name in names.as_slice() {
@@ -215,8 +241,8 @@ fn names_behind(names: &Items<Span>, start: u32, first: u32) -> Result<u32, Pass
 ///
 /// The limit that is passed first.
 #[cycle(walk)]
-pub fn block(block: &Block, before: u32) -> Result<u32, Passed>
-    ensures { Says (first (one (node_of_block block.now))) (high (one (node_of_block block.now)) before) result }
+pub fn block(block: &Block, before: u32) -> Result<u32, Breach>
+    ensures { Gives (one (node_of_block block.now)) before result }
 {
     let statements = stmts(&block.statements, 0)?;
     settle(block.span, optional(&block.tail, statements)?, before)
@@ -224,26 +250,21 @@ pub fn block(block: &Block, before: u32) -> Result<u32, Passed>
 
 /// Looks over the statements of a block.
 #[cycle(walk)]
-fn stmts(stmts: &Items<Stmt>, before: u32) -> Result<u32, Passed>
-    ensures { Says (first (upto 1024 statement (map node_of_stmt stmts.now))) (high (upto 1024 statement (map node_of_stmt stmts.now)) before) result }
+fn stmts(stmts: &Items<Stmt>, before: u32) -> Result<u32, Breach>
+    ensures { Gives (upto 1024 statement (map node_of_stmt stmts.now)) before result }
 {
     let mut highest = before;
     for (index, next) in stmts.as_slice().iter().enumerate() {
         highest = stmt(next, highest)?;
-        if is_past(Some(STATEMENTS), index) {
-            return Err(Passed {
-                rule: Rule::S6,
-                span: next.span(),
-            });
-        }
+        refuse_if(is_past(Some(STATEMENTS), index), Rule::S6, next.span())?;
     }
     Ok(highest)
 }
 
 /// Looks over a statement.
 #[cycle(walk)]
-fn stmt(stmt: &Stmt, before: u32) -> Result<u32, Passed>
-    ensures { Says (first (one (node_of_stmt stmt.now))) (high (one (node_of_stmt stmt.now)) before) result }
+fn stmt(stmt: &Stmt, before: u32) -> Result<u32, Breach>
+    ensures { Gives (one (node_of_stmt stmt.now)) before result }
 {
     match stmt {
         Stmt::Let(span, pattern, type_, value) => {

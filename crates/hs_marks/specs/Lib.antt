@@ -1,0 +1,4 @@
+pub mod First
+pub mod Marked
+pub mod Says
+pub mod Told
