@@ -8,7 +8,7 @@ use Rattle.hs_syntax.specs.declared.exp.BinaryOp.{BinaryOp}
 use Rattle.hs_syntax.specs.declared.exp.Target.{Target}
 use Rattle.hs_syntax.specs.declared.exp.Variable.{Variable}
 use Rattle.hs_syntax.specs.declared.exp.Exp.{Exp}
-use Rattle.hs_syntax.specs.declared.exp.Postfix.{Postfix}
+use Rattle.hs_syntax.specs.declared.exp.Step.{Step}
 use Rattle.hs_syntax.specs.declared.exp.Stmt.{Stmt}
 use Rattle.hs_syntax.specs.declared.exp.Block.{Block}
 use Rattle.hs_syntax.specs.Spans.{span_of_exp, span_of_block, span_of_variable}
@@ -20,7 +20,7 @@ use Rattle.hs_forms.specs.Nodes.{across}
 use Rattle.hs_forms.specs.Blocks.{place_in, let_of, for_of, return_of, alone_of, exp_stmt_of, assign_to, step_of_piece, bare_in, ending, split_tail, with_tail, block_of}
 use Rattle.hs_forms.specs.Grammar.{rules, let_form, loop_variable, for_form, returned, return_form, alone_form, assigned, finished, behind_place, exp_form, piece_form, pieces, block_form}
 use Rattle.hs_limits.specs.Outline.{join, one, maybe, all, upto, counted, statement}
-use Rattle.hs_limits.specs.Nodes.{word, name, wrap, optional_ty, node_of_ty, node_of_pat, node_of_exp, node_of_postfix, node_of_stmt, node_of_block}
+use Rattle.hs_limits.specs.Nodes.{word, name, wrap, optional_ty, node_of_ty, node_of_pat, node_of_exp, node_of_step, node_of_stmt, node_of_block}
 use Rattle.hs_limits.specs.Nested.{Nested}
 use Rattle.hs_limits.specs.Spans.{SpansAgree}
 use Rattle.hs_places.proofs.Outlines.{wide, beyond, begun, opened, held, around, until, start_of, ordered, upto_nested}
@@ -94,13 +94,13 @@ alone_nested : SpansAgree → (low m high : ℕ) (e : Exp) (o : Option Span) →
 alone_nested agree low m high e None p l = on (stmt_bare e) (around (node_of_exp e).at counted (node_of_exp e) low high refl (beyond (one (node_of_exp e)) low m high l p))
 alone_nested agree low m high e (Some close) p c = exp_stmt_nested agree low m high e close p c
 
-assign_nested : SpansAgree → (start low m high : ℕ) (e : Exp) (place : Option (Target × List Postfix)) (o : Option BinaryOp) (right : Exp) (close : Span) → place_in e ≡ place
+assign_nested : SpansAgree → (start low m high : ℕ) (e : Exp) (place : Option (Target × List Step)) (o : Option BinaryOp) (right : Exp) (close : Span) → place_in e ≡ place
     → Nested (one (node_of_exp e)) start low → Nested (one (node_of_exp right)) low m → Nested (name close) m high → Nested (one (node_of_stmt (assign_to e place o right close))) start high
 assign_nested agree start low m high e None o right close i p q c =
     exp_stmt_nested agree start m high e close (beyond (one (node_of_exp e)) start low m (ordered (one (node_of_exp right)) low m q) p) c
 assign_nested agree start low m high e (Some (t, ps)) o right close i p q c =
     on (stmt_assign (across t.span close) t ps o right)
-    (begun (across t.span close) counted (wrap t.span (join (name t.name) (all (map node_of_postfix ps)))) (one (node_of_exp right)) start low high refl (place_nested agree e t ps start low i p)
+    (begun (across t.span close) counted (wrap t.span (join (name t.name) (all (map node_of_step ps)))) (one (node_of_exp right)) start low high refl (place_nested agree e t ps start low i p)
     (beyond (one (node_of_exp right)) low m close.end (closes close m high c) q) c.2)
 
 -- ---- blocks

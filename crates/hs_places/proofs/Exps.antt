@@ -1,5 +1,5 @@
 -- Where expressions lie.
-use Rattle.std.proofs.Common.{◌≡◌, ℕ, zero, suc, ◌≤◌, arith, Bool, true, false, List, [], ◌∷◌, Option, Some, None, refl, map}
+use Rattle.std.proofs.Common.{◌≡◌, ℕ, ◌≤◌, arith, Bool, true, false, List, [], ◌∷◌, Option, Some, None, refl, map}
 use Rattle.hs_grammar.specs.Derives.{Derivings}
 use Rattle.hs_syntax.specs.declared.span.Span.{Span}
 use Rattle.hs_syntax.specs.declared.span.Int.{Int}
@@ -14,23 +14,27 @@ use Rattle.hs_syntax.specs.declared.exp.Exp.TheVariants as exp
 use Rattle.hs_syntax.specs.declared.exp.Operand.{Operand}
 use Rattle.hs_syntax.specs.declared.exp.Postfix.{Postfix}
 use Rattle.hs_syntax.specs.declared.exp.Postfix.TheVariants as postfix
+use Rattle.hs_syntax.specs.declared.exp.Step.TheVariants as step
+use Rattle.hs_syntax.specs.declared.exp.Else.{Else}
+use Rattle.hs_syntax.specs.declared.exp.Level.{Level}
+use Rattle.hs_syntax.specs.declared.exp.Level.TheVariants as level
 use Rattle.hs_syntax.specs.declared.exp.Arg.{Arg}
 use Rattle.hs_syntax.specs.declared.exp.Arg.TheVariants as arg
 use Rattle.hs_syntax.specs.declared.exp.Arm.{Arm}
 use Rattle.hs_syntax.specs.declared.exp.Block.{Block}
-use Rattle.hs_syntax.specs.Spans.{span_of_arm_pat, span_of_path, span_of_exp, span_of_postfix, span_of_block}
+use Rattle.hs_syntax.specs.Spans.{span_of_arm_pat, span_of_path, span_of_exp, span_of_postfix, span_of_else, span_of_block}
 use Rattle.hs_forms.specs.declared.token.Kind.TheVariants as k
 use Rattle.hs_forms.specs.declared.token.Token.{Token}
 use Rattle.hs_forms.specs.Lexis.{lexis}
 use Rattle.hs_forms.specs.Nodes.{span_of, across, last_of, operand_of, right_of, binary_of, cast_of, post_of, prefix_of, prefix_named, group_of, tuple_of, call_of, if_of, match_of, arm_of}
 use Rattle.hs_forms.specs.Blocks.{step_of}
-use Rattle.hs_forms.specs.Grammar.{rules, F, RExp, RUnary, RBlock, RIf, RMaybe, int, path_type, path_of_type, behind_separator, named_path, path_form, expression, block, lent, lent_arg, list_arg, arg_form, args_rest, args, call_form, behind_first, grouped_rest, grouped, else_branch, else_form, if_form, block_value, closed_value, exp_value, arm_form, next_arms, arms_of, arms, match_form, literal, alone, prim, method, behind_dot, index, postfix_form, post, unary, cast, operand, operands, one_or_none, level}
+use Rattle.hs_forms.specs.Grammar.{rules, F, RExp, RUnary, RBlock, RIf, RMaybe, int, path_type, path_of_type, behind_separator, named_path, path_form, expression, block, lent, lent_arg, list_arg, arg_form, args_rest, args, call_form, behind_first, grouped_rest, grouped, else_branch, else_form, if_form, block_value, closed_value, exp_value, arm_form, next_arms, arms_of, arms, match_form, literal, alone, prim, method, behind_dot, index, postfix_form, post, unary, cast, operand, operands, one_or_none, binary}
 use Rattle.hs_limits.specs.Outline.{none, join, one, all, counted, through, apart, part}
-use Rattle.hs_limits.specs.Nodes.{word, name, tall, ty_outline, node_of_ty, node_of_arm_pat, node_of_path, node_of_exp, node_of_arg, node_of_postfix, node_of_arm, node_of_block, node_of_operand}
+use Rattle.hs_limits.specs.Nodes.{word, name, tall, ty_outline, node_of_ty, node_of_arm_pat, node_of_path, node_of_exp, node_of_if, node_of_else, node_of_arg, node_of_step, node_of_postfix, node_of_arm, node_of_block, node_of_operand}
 use Rattle.hs_limits.specs.Nested.{Nested}
 use Rattle.hs_limits.specs.Spans.{SpansAgree}
 use Rattle.hs_places.proofs.Outlines.{before, beyond, begun, opened, around, until, start_of}
-use Rattle.hs_places.proofs.Layers.{on, exp_int, exp_bool, exp_unit, exp_group, exp_tuple, exp_path, exp_call, exp_block, exp_if, exp_match, exp_post, exp_prefix, exp_cast, exp_binary, arg_value, arg_shared, arg_lent, arg_list, postfix_try, postfix_method, postfix_index, postfix_part, arm_is, operand_is}
+use Rattle.hs_places.proofs.Layers.{on, exp_int, exp_bool, exp_unit, exp_group, exp_tuple, exp_path, exp_call, exp_block, exp_if, if_is, else_chain, else_last, exp_match, exp_post, exp_prefix, exp_cast, exp_binary, arg_value, arg_shared, arg_lent, arg_list, postfix_try, postfix_method, postfix_step, step_index, step_part, arm_is, operand_is}
 use Rattle.hs_places.proofs.Facts.{row_more, Fact, nodes, spans, nothing, by, pair, perhaps, Perhaps, rows, Row, row_nested, Turn, after, listed_in, tuple_in, closes, chained}
 use Rattle.hs_places.proofs.Gives.{Gives, Knots, of_rule, token, span, none_kept, empty, map_to, seq, split, alt, unless, loop, then_, and_then, both, may, many, listed}
 use Rattle.hs_places.proofs.Types.{name_gives}
@@ -38,6 +42,9 @@ use Rattle.hs_places.proofs.Patterns.{arm_pattern_gives}
 
 abbrev pub exps : Fact Exp
 exps = nodes node_of_exp
+
+abbrev elses : Fact Else
+elses = nodes node_of_else
 
 -- arguments in a bracket
 abbrev pub arg_lists : Fact (List Arg × Span)
@@ -103,17 +110,17 @@ unit_nested low high close o start p c = on (exp_unit (across o close)) (opened 
 
 -- ---- what stands alone
 
-if_nested : SpansAgree → (low m k l high : ℕ) (s : Span) (c : Exp) (b : Block) (o : Option Exp) → Nested (name s) low m → Nested (one (node_of_exp c)) m k → Nested (one (node_of_block b)) k l → Perhaps exps l high o
-    → Nested (one (node_of_exp (if_of s c b o))) low high
+if_nested : SpansAgree → (low m k l high : ℕ) (s : Span) (c : Exp) (b : Block) (o : Option Else) → Nested (name s) low m → Nested (one (node_of_exp c)) m k → Nested (one (node_of_block b)) k l → Perhaps elses l high o
+    → Nested (one (node_of_if (if_of s c b o))) low high
 if_nested agree low m k l high s c b None p q r h =
     let u = until (node_of_block b) (span_of_block b) k l (agree.of_block b) r in
     let e : (span_of_block b).end ≤ l = u.1 in
-    on (exp_if (across s (span_of_block b)) c b None)
+    on (if_is (across s (span_of_block b)) c b None)
     (opened (across s (span_of_block b)) counted s (join (one (node_of_exp c)) (join (one (node_of_block b)) none)) low m high refl p (k, q, ((span_of_block b).end, u.0, omega arith)) (omega (arith, e, h)))
 if_nested agree low m k l high s c b (Some o) p q r h =
-    let u = until (node_of_exp o) (span_of_exp o) l high (agree.of_exp o) h in
-    on (exp_if (across s (span_of_exp o)) c b (Some o))
-    (opened (across s (span_of_exp o)) counted s (join (one (node_of_exp c)) (join (one (node_of_block b)) (one (node_of_exp o)))) low m high refl p (k, q, (l, r, u.0)) u.1)
+    let u = until (node_of_else o) (span_of_else o) l high (agree.of_else o) h in
+    on (if_is (across s (span_of_else o)) c b (Some o))
+    (opened (across s (span_of_else o)) counted s (join (one (node_of_exp c)) (join (one (node_of_block b)) (one (node_of_else o)))) low m high refl p (k, q, (l, r, u.0)) u.1)
 
 closed_nested : (low m high : ℕ) (e : Exp) (o : Option (Unit {0})) → Nested (one (node_of_exp e)) low m → Perhaps nothing m high o → Nested (one (node_of_exp (closed_value e o).0)) low high
 closed_nested low m high e None p l = beyond (one (node_of_exp e)) low m high l p
@@ -155,12 +162,14 @@ method_nested low m high n r s start p q (k, as', c) =
     (opened (across s r.1) through s (join (name n) (all (map node_of_arg r.0))) start low high refl p
     (m, q, beyond (all (map node_of_arg r.0)) m k r.1.end (closes r.1 k high c) (row_nested node_of_arg r.0 m k as')) c.2)
 
-part_nested : (low high : ℕ) (i : Int) (s : Span) (start : ℕ) → Nested (name s) start low → Nested (name i.span) low high → Nested (one (node_of_postfix (postfix.Part (across s i.span) i))) start high
-part_nested low high i s start p q = on (postfix_part (across s i.span) i) (opened (across s i.span) through s (name i.span) start low high refl p (q.0, q.1, omega arith, q.3) q.2)
+part_nested : (low high : ℕ) (i : Int) (s : Span) (start : ℕ) → Nested (name s) start low → Nested (name i.span) low high → Nested (one (node_of_postfix (postfix.Step (step.Part (across s i.span) i)))) start high
+part_nested low high i s start p q =
+    on (postfix_step (step.Part (across s i.span) i))
+    (on (step_part (across s i.span) i) (opened (across s i.span) through s (name i.span) start low high refl p (q.0, q.1, omega arith, q.3) q.2))
 
-index_nested : (low m k high : ℕ) (o : Span) (e : Exp) (close : Span) → Nested (name o) low m → Nested (one (node_of_exp e)) m k → Nested (name close) k high → Nested (one (node_of_postfix (postfix.Index (across o close) e))) low high
+index_nested : (low m k high : ℕ) (o : Span) (e : Exp) (close : Span) → Nested (name o) low m → Nested (one (node_of_exp e)) m k → Nested (name close) k high → Nested (one (node_of_step (step.Index (across o close) e))) low high
 index_nested low m k high o e close p q c =
-    on (postfix_index (across o close) e) (opened (across o close) through o (one (node_of_exp e)) low m high refl p (beyond (one (node_of_exp e)) m k close.end (closes close k high c) q) c.2)
+    on (step_index (across o close) e) (opened (across o close) through o (one (node_of_exp e)) low m high refl p (beyond (one (node_of_exp e)) m k close.end (closes close k high c) q) c.2)
 
 post_nested : SpansAgree → (low m high : ℕ) (e : Exp) (ps : List Postfix) → Nested (one (node_of_exp e)) low m → Row (nodes node_of_postfix) m high ps → Nested (one (node_of_exp (post_of e ps))) low high
 post_nested agree low m high e [] p l = beyond (one (node_of_exp e)) low m high l p
@@ -271,16 +280,17 @@ module _ (ρ : Derivings lexis rules) (knots : Knots ρ) where
   unfolding grouped
   grouped_gives = seq ρ (λ low m high o f p h. h o low p) (span ρ refl) grouped_rest_gives
 
-  else_branch_gives : Gives ρ else_branch exps
+  else_branch_gives : Gives ρ else_branch elses
   unfolding else_branch
-  else_branch_gives = alt ρ (of_rule ρ knots RIf) (map_to ρ (λ low high b p. on (exp_block b) p) block_gives)
+  else_branch_gives =
+      alt ρ (map_to ρ (λ low high i p. on (else_chain i) p) (of_rule ρ knots RIf)) (map_to ρ (λ low high b p. on (else_last b) p) block_gives)
 
-  else_form_gives : Gives ρ else_form (perhaps exps)
+  else_form_gives : Gives ρ else_form (perhaps elses)
   unfolding else_form
   else_form_gives = may ρ (then_ ρ else_branch_gives)
 
   -- If
-  pub if_form_gives : Gives ρ if_form exps
+  pub if_form_gives : Gives ρ if_form (nodes node_of_if)
   unfolding if_form
   if_form_gives =
       seq ρ (λ low m high s r p q. if_nested knots.agree low m q.0 q.2.0 high s r.0 r.1.0 r.1.1 p q.1 q.2.1 q.2.2) (span ρ refl)
@@ -321,7 +331,7 @@ module _ (ρ : Derivings lexis rules) (knots : Knots ρ) where
   -- If | Match | Block
   pub alone_gives : Gives ρ alone exps
   unfolding alone
-  alone_gives = alt ρ if_form_gives (alt ρ match_form_gives (map_to ρ (λ low high b p. on (exp_block b) p) block_gives))
+  alone_gives = alt ρ (map_to ρ (λ low high i p. on (exp_if i) p) if_form_gives) (alt ρ match_form_gives (map_to ρ (λ low high b p. on (exp_block b) p) block_gives))
 
   prim_gives : Gives ρ prim exps
   unfolding prim
@@ -335,7 +345,7 @@ module _ (ρ : Derivings lexis rules) (knots : Knots ρ) where
   unfolding behind_dot
   behind_dot_gives = alt ρ (map_to ρ {P = by (λ (i : Int). i.span) spans} (λ low high i p s start q. part_nested low high i s start q p) (token ρ refl (λ t low high n. n))) method_gives
 
-  index_gives : Gives ρ index (nodes node_of_postfix)
+  index_gives : Gives ρ index (nodes node_of_step)
   unfolding index
   index_gives = seq ρ (λ low m high o r p q. index_nested low m q.0 high o r.0 r.1 p q.1 q.2) (span ρ refl) (both ρ expression_gives (span ρ refl))
 
@@ -343,7 +353,7 @@ module _ (ρ : Derivings lexis rules) (knots : Knots ρ) where
   unfolding postfix_form
   postfix_form_gives =
       alt ρ (map_to ρ (λ low high s p. on (postfix_try s) p) (span ρ {ks = k.Question ∷ []} refl))
-      (alt ρ (seq ρ (λ low m high s f p h. h s low p) (span ρ refl) behind_dot_gives) index_gives)
+      (alt ρ (seq ρ (λ low m high s f p h. h s low p) (span ρ refl) behind_dot_gives) (map_to ρ (λ low high t p. on (postfix_step t) p) index_gives))
 
   post_gives : Gives ρ post exps
   unfolding post
@@ -358,23 +368,24 @@ module _ (ρ : Derivings lexis rules) (knots : Knots ρ) where
   unfolding cast
   cast_gives = seq ρ (cast_nested knots.agree) unary_gives (many ρ (then_ ρ (name_gives ρ knots)))
 
-  operand_gives : (n : ℕ) (below : F Exp) → Gives ρ below exps → Gives ρ (operand n below) (nodes node_of_operand)
+  operand_gives : (l : Level) (below : F Exp) → Gives ρ below exps → Gives ρ (operand l below) (nodes node_of_operand)
   unfolding operand
-  operand_gives n below g = seq ρ {P = nothing} operand_nested (none_kept ρ) g
+  operand_gives l below g = seq ρ {P = nothing} operand_nested (none_kept ρ) g
 
-  operands_gives : (n : ℕ) (below : F Exp) → Gives ρ below exps → Gives ρ (operands n below) (rows (nodes node_of_operand))
+  operands_gives : (l : Level) (below : F Exp) → Gives ρ below exps → Gives ρ (operands l below) (rows (nodes node_of_operand))
   unfolding operands
-  operands_gives zero below g = many ρ (operand_gives 0 below g)
-  operands_gives (suc zero) below g = many ρ (operand_gives 1 below g)
-  operands_gives (suc (suc zero)) below g = many ρ (operand_gives 2 below g)
-  operands_gives (suc (suc (suc zero))) below g = many ρ (operand_gives 3 below g)
-  operands_gives (suc (suc (suc (suc zero)))) below g = many ρ (operand_gives 4 below g)
-  operands_gives (suc (suc (suc (suc (suc zero))))) below g = many ρ (operand_gives 5 below g)
-  operands_gives (suc (suc (suc (suc (suc (suc zero)))))) below g = map_to ρ one_row (may ρ (operand_gives 6 below g))
-  operands_gives (suc (suc (suc (suc (suc (suc (suc n))))))) below g = many ρ (operand_gives (suc (suc (suc (suc (suc (suc (suc n))))))) below g)
+  operands_gives level.Product below g = many ρ (operand_gives level.Product below g)
+  operands_gives level.Sum below g = many ρ (operand_gives level.Sum below g)
+  operands_gives level.Shift below g = many ρ (operand_gives level.Shift below g)
+  operands_gives level.BitAnd below g = many ρ (operand_gives level.BitAnd below g)
+  operands_gives level.BitXor below g = many ρ (operand_gives level.BitXor below g)
+  operands_gives level.BitOr below g = many ρ (operand_gives level.BitOr below g)
+  operands_gives level.Compare below g = map_to ρ one_row (may ρ (operand_gives level.Compare below g))
+  operands_gives level.And below g = many ρ (operand_gives level.And below g)
+  operands_gives level.Or below g = many ρ (operand_gives level.Or below g)
 
-  -- the expressions of so many levels
-  pub level_gives : (n : ℕ) → Gives ρ (level n) exps
-  unfolding level
-  level_gives zero = cast_gives
-  level_gives (suc n) = seq ρ (binary_nested knots.agree) (level_gives n) (operands_gives n (level n) (level_gives n))
+  -- the expressions of these levels
+  pub binary_gives : (ls : List Level) → Gives ρ (binary ls) exps
+  unfolding binary
+  binary_gives [] = cast_gives
+  binary_gives (l ∷ ls) = seq ρ (binary_nested knots.agree) (binary_gives ls) (operands_gives l (binary ls) (binary_gives ls))

@@ -3,7 +3,7 @@ use Rattle.std.proofs.Common.{◌≡◌, ℕ, ◌≤◌, arith, List, [], ◌∷
 use Rattle.hs_grammar.specs.Form.{Step, More, Last}
 use Rattle.hs_syntax.specs.declared.span.Span.{Span}
 use Rattle.hs_forms.specs.Nodes.{last_of}
-use Rattle.hs_limits.specs.Outline.{Outline, Node, Kind, Surplus, join, node, one, maybe, all, upto, chain}
+use Rattle.hs_limits.specs.Outline.{Node, Kind, Surplus, join, node, one, maybe, all, upto, chain}
 use Rattle.hs_limits.specs.Nodes.{word, name}
 use Rattle.hs_limits.specs.Nested.{Nested}
 use Rattle.hs_places.proofs.Outlines.{wide, before, beyond, begun, opened, upto_nested, end_of, grouped_left}
@@ -23,13 +23,6 @@ nodes f = record {
 -- of a token's bytes
 abbrev pub spans : Fact Span
 spans = nodes word
-
--- of a value that is nodes in a row
-abbrev pub outlines : {C : Type 0} → (C → Outline) → Fact C
-outlines f = record {
-  holds = λ low high x. Nested (f x) low high;
-  wider = λ low high lower higher x l h n. wide (f x) low high lower higher l h n;
-}
 
 -- of what closes an angle, which may be a half of a `>>`
 abbrev pub ends : Fact Span

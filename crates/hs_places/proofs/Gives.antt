@@ -13,10 +13,10 @@ use Rattle.hs_syntax.specs.declared.ty.Ty.{Ty}
 use Rattle.hs_forms.specs.Grammar.{Rule, RFile, RType, RMaybe, RPat, RExp, RUnary, RBlock, RIf, ROpen, RPlace, RPlaced, rules, value, F}
 use Rattle.hs_limits.specs.Nested.{Nested}
 use Rattle.hs_limits.specs.Spans.{SpansAgree}
-use Rattle.hs_limits.specs.Nodes.{name, outline_of, node_of_ty, node_of_pat, node_of_exp, node_of_block}
+use Rattle.hs_limits.specs.Nodes.{name, node_of_item, node_of_ty, node_of_pat, node_of_exp, node_of_if, node_of_block}
 use Rattle.hs_places.specs.Spaced.{Spaced}
 use Rattle.hs_places.proofs.Spaces.{in_order, divide, behind_start, low_end, no_half}
-use Rattle.hs_places.proofs.Facts.{Fact, nodes, outlines, spans, ends, nothing, anything, by, pair, perhaps, Perhaps, rows, Row, turns}
+use Rattle.hs_places.proofs.Facts.{Fact, nodes, spans, ends, nothing, anything, by, pair, perhaps, Perhaps, rows, Row, turns}
 
 -- of what the form derives from tokens between two places, this is known
 pub record Gives (ρ : Derivings lexis rules) {C : Type 0} (f : F C) (P : Fact C) : Type 0 where
@@ -160,14 +160,14 @@ module _ (ρ : Derivings lexis rules) where
 
 -- what is known of the value of each rule
 abbrev pub fact : (N : Rule) → Fact (value N)
-fact RFile = outlines outline_of
+fact RFile = rows (nodes node_of_item)
 fact RType = nodes node_of_ty
 fact RMaybe = by (λ (t : Ty × Bool). t.0) (nodes node_of_ty)
 fact RPat = nodes node_of_pat
 fact RExp = nodes node_of_exp
 fact RUnary = nodes node_of_exp
 fact RBlock = nodes node_of_block
-fact RIf = nodes node_of_exp
+fact RIf = nodes node_of_if
 fact ROpen = anything
 fact RPlace = anything
 fact RPlaced = anything

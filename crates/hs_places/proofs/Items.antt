@@ -16,11 +16,11 @@ use Rattle.hs_forms.specs.Lexis.{lexis}
 use Rattle.hs_forms.specs.Nodes.{across}
 use Rattle.hs_forms.specs.Grammar.{rules, mutable_param, lent_type, mode_type, named_param, param, parts, ctor_of, ctor, Declared, const_form, alias_form, struct_form, enum_form, params_rest, params, result_type, fn_form, data_form, declaration, derive_names, item_of, derived_item, public_item, plain_item, use_form, array_form, bytes_form, nat_mod_names, nat_mod_values, nat_mod_form, other_item, item_form, file_form}
 use Rattle.hs_limits.specs.Outline.{none, join, one, all, upto, through, apart, part, parameter}
-use Rattle.hs_limits.specs.Nodes.{word, name, names, wrap, ty_outline, node_of_ty, node_of_exp, node_of_block, node_of_ctor, node_of_param, kind_outline, node_of_item, outline_of}
+use Rattle.hs_limits.specs.Nodes.{word, name, names, wrap, ty_outline, node_of_ty, node_of_exp, node_of_block, node_of_ctor, node_of_param, kind_outline, node_of_item}
 use Rattle.hs_limits.specs.Nested.{Nested}
 use Rattle.hs_limits.specs.Spans.{SpansAgree}
 use Rattle.hs_places.proofs.Outlines.{before, beyond, begun, opened, until, upto_nested, ordered}
-use Rattle.hs_places.proofs.Facts.{Fact, nodes, outlines, spans, nothing, by, pair, perhaps, Perhaps, perhaps_nested, rows, Row, row_nested, closes}
+use Rattle.hs_places.proofs.Facts.{Fact, nodes, spans, nothing, by, pair, perhaps, Perhaps, perhaps_nested, rows, Row, row_nested, closes}
 use Rattle.hs_places.proofs.Gives.{Gives, Knots, span, none_kept, map_to, seq, alt, then_, and_then, both, may, many, listed}
 use Rattle.hs_places.proofs.Types.{name_gives, type_gives}
 use Rattle.hs_places.proofs.Exps.{int_gives, expression_gives, block_gives}
@@ -255,6 +255,6 @@ module _ (ρ : Derivings lexis rules) (knots : Knots ρ) where
   item_form_gives = alt ρ derived_item_gives (alt ρ public_item_gives (alt ρ other_item_gives plain_item_gives))
 
   -- File
-  pub file_form_gives : Gives ρ file_form (outlines outline_of)
+  pub file_form_gives : Gives ρ file_form (rows (nodes node_of_item))
   unfolding file_form
-  file_form_gives = map_to ρ (λ low high is r. row_nested node_of_item is low high r) (many ρ item_form_gives)
+  file_form_gives = many ρ item_form_gives

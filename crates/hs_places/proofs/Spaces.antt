@@ -13,7 +13,7 @@ use Rattle.hs_forms.specs.declared.token.Kind.TheVariants as k
 use Rattle.hs_forms.specs.declared.token.Token.{Token}
 use Rattle.hs_forms.specs.Lexis.{lexis, same, tells}
 use Rattle.hs_forms.specs.Tokens.{placed, tokens_of}
-use Rattle.hs_forms.specs.Words.{named, reserved, names, short_marks, long_marks, reserved_kind, name_kind, mark_kind, kind_of}
+use Rattle.hs_forms.specs.Kinds.{named, reserved, names, short_marks, long_marks, reserved_kind, name_kind, mark_kind, kind_of}
 use Rattle.hs_places.specs.Spaced.{Behind, Spaced}
 
 behind_end : (b : Bool) (low start end : ℕ) → Where b (end ≡ low) (low ≤ start) → start < end → low ≤ end

@@ -1,0 +1,13 @@
+pub mod Sure
+pub mod Tokens
+pub mod Layers
+pub mod Facts
+pub mod Gives
+pub mod Types
+pub mod Patterns
+pub mod Exps
+pub mod Places
+pub mod Blocks
+pub mod Items
+pub mod Rules
+pub mod Rows
