@@ -346,44 +346,79 @@ class Teller:
         return "a file" if self.chart.is_file() else "G2 " + place(text, len(text))
 
 
-# ---- the nested sources: what stands before, inside and behind, how often at most, and what is told of the closed one where it
-# nests 500 times: the form of height 65, counted from the inside
+# ---- the nested sources: what stands before, how each form begins, what is innermost, how each form ends, and what stands behind
+# all; how often it nests at most; how often it surely may nest; the height of what is innermost, and where in a form the nodes
+# begin that it adds to the height, from the inside out (of types and patterns, which have no limit on heights, none)
 
 NESTS = [
-    ("(", "1", ")", 100000),
-    ("{", "1", "}", 60000),
-    ("-", "1", "", 100000),
-    ("a[", "1", "]", 60000),
-    ("if a {", "1", "}", 30000),
-    ("match a { _ => ", "1", "}", 16000),
-    ("f(", "1", ")", 60000),
-    ("if a {} else ", "{}", "", 16000),
+    ("fn f() { ", "(", "1", ")", " }", 100000, 500, 1, [0]),
+    ("fn f() { ", "{", "1", "}", " }", 60000, 500, 1, [0]),
+    ("fn f() { ", "-", "1", "", " }", 100000, 500, 1, [0]),
+    ("fn f() { ", "a[", "1", "]", " }", 60000, 500, 1, [0]),
+    ("fn f() { ", "if a {", "1", "}", " }", 30000, 500, 1, [5, 0]),
+    ("fn f() { ", "match a { _ => ", "1", "}", " }", 16000, 500, 1, [0]),
+    ("fn f() { ", "f(", "1", ")", " }", 60000, 500, 1, [0]),
+    ("fn f() { ", "if a {} else ", "{}", "", " }", 16000, 500, 1, [0]),
+    ("fn f() { ", "f([", "1", "])", " }", 50000, 500, 1, [0]),
+    ("fn f() { ", "f(&", "1", ")", " }", 60000, 500, 1, [0]),
+    ("fn f() { ", "a.f(", "1", ")", " }", 50000, 500, 1, [0]),
+    ("fn f() { ", "(1, ", "1", ")", " }", 50000, 500, 1, [0]),
+    ("fn f() { ", "(", "1", " as u8)", " }", 30000, 500, 1, [1, 0]),
+    ("fn f() { ", "a + (", "1", ")", " }", 40000, 500, 1, [4, 0]),
+    ("fn f() { ", "if ", "a", " {}", " }", 40000, 500, 1, [0]),
+    ("fn f() { ", "match ", "a", " { _ => 1 }", " }", 14000, 500, 1, [0]),
+    ("fn f() { ", "for i in 0..1 {", "1;", "}", " }", 16000, 500, 2, [14, 0]),
+    ("fn f() { ", "let a = {", "1;", "};", " }", 20000, 170, 2, [8, 0]),
+    ("fn f() { ", "a || a && a == a | a ^ a & a << a + a * (", "1", ")", " }", 6000, 170, 1, [40, 36, 32, 27, 23, 19, 15, 10, 5, 0]),
+    ("fn f() { let x: ", "A<", "u8", ">", " = 1; }", 80000, 500, 1, None),
+    ("fn f() { let x: ", "A<u8, ", "u8", ">", " = 1; }", 30000, 500, 1, None),
+    ("fn f() { let x: ", "(u8, ", "u8", ")", " = 1; }", 40000, 500, 1, None),
+    ("fn f() { f(A::<", "A<", "u8", ">", ">::b(1)) }", 80000, 800, 1, None),
+    ("fn f() { let ", "S(", "a", ")", " = 1; }", 80000, 500, 1, None),
+    ("fn f() { let ", "(a, ", "a", ")", " = 1; }", 50000, 500, 1, None),
+    ("fn f() { match a { ", "S(", "a", ")", " => 1 } }", 80000, 500, 1, None),
 ]
 
 
-def nested(before, inside, behind, count, closed):
-    return "fn f() { " + before * count + inside + behind * closed + (" }" if closed else "")
+def nested(nest, count, closed):
+    head, before, inside, behind, tail = nest[:5]
+    return head + before * count + inside + behind * closed + (tail if closed else "")
 
 
-def high(before, inside, behind, count):
-    """The first byte of the first node of height 65, where the innermost has height 1 (a block without parts too), and each
-    form has one more than what is in it; an if counts two, with its block."""
-    start = len("fn f() { ")
-    steps = {"if a {": 2}.get(before, 1)
-    above = 64  # nodes above the innermost
-    if above % steps == 0:
-        return start + len(before) * (count - above // steps)
-    return start + len(before) * (count - above // steps) - 1
+def high(nest, count):
+    """The first byte of the innermost node of height 65, or None where there is none."""
+    head, before, base, offsets = nest[0], nest[1], nest[7], nest[8]
+    if offsets is None:
+        return None
+    above = 64 - base  # the nodes between what is innermost and the node of height 65
+    level = count - 1 - above // len(offsets)
+    if level >= 0:
+        return len(head) + len(before) * level + offsets[above % len(offsets)]
+    return len("fn f() ") if base + count * len(offsets) == 64 else None
 
 
 def nested_told(teller, nest, count, closed):
-    before, inside, behind, most = nest
-    if count > 500:
-        return "no memory"
-    text = nested(before, inside, behind, count, closed)
-    if count == 500 and closed:
-        return "S2 " + place(text, high(before, inside, behind, count))
-    return teller.told(text)
+    if count > nest[6]:
+        return "too deep"
+    text = nested(nest, count, closed)
+    told = teller.told(text)
+    if told != "a file" or high(nest, count) is None:
+        return told
+    return "S2 " + place(text, high(nest, count))
+
+
+# ---- other sources: parts, each so many times
+
+OTHERS = [
+    [],
+    [("const A: u8 = 1; ", 800)],
+    [("fn f() -> Seq<u8> { if a { f([1]) } else { - 1 } } ", 500)],
+    [("\n", 70000), ("1", 1)],
+    [("(1 2)", 1)],
+    [("1", 1), ("(", 2000)],
+    [("fn f() { 1 2 ", 1), ("(", 2000)],
+    [("fn f() { f(A::<", 1), ("A<", 800), ("u8", 1), (">", 800), (">::b(1)) }", 1)],
+]
 
 
 def table(folder):
@@ -395,9 +430,11 @@ def table(folder):
     for line in open(folder + "/table.txt").read().splitlines():
         print(teller.told(line))
     for nest in NESTS:
-        for count in (20, 500, nest[3]):
+        for count in (20, 64, 170, 500, nest[5]):
             for closed in (0, count):
-                print("%s %d %d: %s" % (nest[0], count, closed, nested_told(teller, nest, count, closed)))
+                print("%s %d %d: %s" % (nest[1], count, closed, nested_told(teller, nest, count, closed)))
+    for parts in OTHERS:
+        print(teller.told("".join(part * count for part, count in parts)))
 
 
 if __name__ == "__main__":

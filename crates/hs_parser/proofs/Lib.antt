@@ -1,3 +1,5 @@
 pub mod Popped
+pub mod Unfinished
+pub mod Ranks
 pub mod Breaks
 pub mod Answered

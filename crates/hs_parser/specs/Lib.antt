@@ -1,2 +1,3 @@
 pub mod BreakRule
+pub mod Nesting
 pub mod Told

@@ -11,7 +11,7 @@ use std::alloc::Global;
 
 /// Whether it is an opening bracket.
 #[tactic(auto, unfolding(crate::specs::BreakRule::opens))]
-fn opens(kind: Kind) -> bool
+pub fn opens(kind: Kind) -> bool
     ensures { result ≡ b.opens kind }
 {
     kind == Kind::LeftParenthesis || kind == Kind::LeftBracket || kind == Kind::LeftBrace
@@ -19,7 +19,7 @@ fn opens(kind: Kind) -> bool
 
 /// Whether it is a closing bracket.
 #[tactic(auto, unfolding(crate::specs::BreakRule::closes))]
-fn closes(kind: Kind) -> bool
+pub fn closes(kind: Kind) -> bool
     ensures { result ≡ b.closes kind }
 {
     kind == Kind::RightParenthesis || kind == Kind::RightBracket || kind == Kind::RightBrace

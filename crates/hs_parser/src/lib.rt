@@ -3,10 +3,13 @@
 #![tactic(auto)]
 
 mod break_rule;
+mod nesting;
 mod parser;
 mod source;
 mod stack;
+mod stop;
 #[cfg(test)]
 mod tests;
 
 pub use parser::{parse, unambiguous};
+pub use stop::ParseStop;

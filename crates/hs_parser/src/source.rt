@@ -1,7 +1,6 @@
 //! The grammar, and the parser of it.
 
-ghost use Rattle.std.specs.Prelude.{suc};
-ghost use Rattle.hs_grammar.specs.Whole.{Parses};
+ghost use Rattle.hs_grammar.specs.Whole.{ParsesAll};
 ghost use Rattle.hs_forms.specs.Grammar.{RFile};
 ghost use Rattle.hs_forms.specs.Written.{written};
 
@@ -11,7 +10,8 @@ use hs_grammar::error::Refusal;
 use hs_grammar::grammar::{Grammar, exact};
 use hs_grammar::whole::finish;
 use hs_parse_items::file;
-use hs_syntax::File;
+use hs_syntax::Item;
+use sqlite_items::Items;
 use std::alloc::Global;
 
 /// The grammar of the source language.
@@ -41,14 +41,16 @@ impl Grammar for Source {
     ghost fits = { f.fits };
 }
 
-/// The file that all the tokens are, where rules inside it nest no deeper than `depth`.
+/// The items of the file that all the tokens are.
 ///
-/// `At`: the first token with which no file goes on. `TooDeep`: rules nest deeper. `NoMemory`: want of memory.
-pub fn read(alloc: Global, tokens: &[Token], depth: usize) -> Result<File, Refusal>
-    ensures { Parses written RFile (suc depth) tokens.now result }
+/// `At`: the first token with which no file goes on. `NoMemory`: want of memory. A rule refers to itself only behind a token,
+/// and there are two rules that refer to others before one: so rules nest no deeper than twice the number of tokens, and
+/// `TooDeep` never comes.
+pub fn read(alloc: Global, tokens: &[Token]) -> Result<Items<Item>, Refusal>
+    ensures { ParsesAll written RFile tokens.now result }
 {
     let mut rest = Tokens::new(tokens);
-    let found = file(alloc, &mut rest, depth);
+    let found = file(alloc, &mut rest, 2 * tokens.len());
     exact::<Source>();
     finish(found, tokens, &rest)
 }

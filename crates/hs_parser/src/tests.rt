@@ -1,7 +1,8 @@
 //! Which texts are files, and the rule and the place that are told of others.
 
 use crate::parser::parse;
-use hs_base::place::{Broken, Stop};
+use crate::stop::ParseStop;
+use hs_base::place::Broken;
 use hs_base::rule::Rule;
 use hs_lexer::lex;
 use hs_syntax::{File, ItemKind, Span, Stmt, Variable};
@@ -9,15 +10,15 @@ use std::alloc::{AllocError, Global};
 use std::test::Fail;
 
 // The file of a text.
-fn file_of(alloc: Global, text: &[u8]) -> Result<File, Stop> {
+fn file_of(alloc: Global, text: &[u8]) -> Result<File, ParseStop> {
     let tokens = lex(alloc, text)?;
-    parse(alloc, tokens.as_slice(), text)
+    parse(alloc, &tokens, text)
 }
 
 // The rule that is told of a text, its line and its column.
 fn told(alloc: Global, text: &[u8]) -> Option<(Rule, u64, u64)> {
     match file_of(alloc, text) {
-        Err(Stop::Broken(Broken { rule, at })) => Some((rule, at.line, at.col)),
+        Err(ParseStop::Broken(Broken { rule, at })) => Some((rule, at.line, at.col)),
         _ => None,
     }
 }
@@ -325,5 +326,27 @@ fn heights_have_their_limit(rt: HostRuntime) -> Result<(), Fail> {
 fn limits_play_no_part_in_where_the_grammar_breaks(rt: HostRuntime) -> Result<(), Fail> {
     let text = repeated(rt.alloc(), "fn f() { ", "();", 1030, "(")?;
     assert!(rt; is_told(rt.alloc(), text.as_bytes(), Rule::G2, 3101));
+    Ok(())
+}
+
+#[test]
+fn a_break_before_too_much_nests_is_told(rt: HostRuntime) -> Result<(), Fail> {
+    let text = repeated(rt.alloc(), "1", "(", 2000, "")?;
+    assert!(rt; is_told(rt.alloc(), text.as_bytes(), Rule::G1, 1));
+    let text = repeated(rt.alloc(), "fn f() { 1 2 ", "(", 2000, "")?;
+    assert!(rt; is_told(rt.alloc(), text.as_bytes(), Rule::G5, 12));
+    Ok(())
+}
+
+#[test]
+fn a_long_file_that_nests_little_is_read(rt: HostRuntime) -> Result<(), Fail> {
+    let text = repeated(
+        rt.alloc(),
+        "",
+        "fn f() -> Seq<u8> { if a { f([1]) } else { - 1 } } ",
+        1500,
+        "",
+    )?;
+    assert!(rt; is_file(rt.alloc(), text.as_bytes()));
     Ok(())
 }

@@ -1,9 +1,9 @@
 use Rattle.std.proofs.Common.{◌≡◌, Some, ap, ◌∙◌}
-use Rattle.hs_limits.specs.declared.passed.Passed.{Passed}
+use Rattle.hs_marks.specs.declared.breach.Breach.{Breach}
 use Rattle.hs_parser.specs.Told.{limit_at}
 use Rattle.hs_parser.proofs.parser.limited.Goals as goal
 
-one_passed : (p q : Passed) → Some p ≡ Some q → p ≡ q
+one_passed : (p q : Breach) → Some p ≡ Some q → p ≡ q
 one_passed p q e = cc
 
 pub returns-in-Some : goal.returns-in-Some
