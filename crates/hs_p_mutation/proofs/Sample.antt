@@ -1,6 +1,7 @@
 -- The small program is sound, so the phase can be called on it.
 use Rattle.std.proofs.Common.{◌≡◌, false, refl, arith, true≢false}
 use Rattle.std.specs.List.{IsDistinct}
+use Rattle.hs_base.specs.Names.{is_upper, is_letter, is_digit, begins_name, is_word_byte, is_reserved, is_name}
 use Rattle.hs_tree.specs.Value.{U32}
 use Rattle.hs_tree.specs.Features.{Feature, Place, Nested, Quest, MutArg, Exit, Assign, Loop, Cf, Acc, Fold, no_exit}
 use Rattle.hs_tree.specs.Count.{uses}
@@ -20,7 +21,7 @@ two_absent Acc off = refl
 two_absent Fold off = refl
 
 pub two_sound : Sound no_exit two
-unfolding IsDistinct
+unfolding IsDistinct is_name is_reserved is_word_byte begins_name is_letter is_upper is_digit
 two_sound =
     record {
       absent = two_absent;

@@ -1,5 +1,5 @@
 -- Features of trees, and the stages: which features a tree of each stage may have.
-use Rattle.std.specs.Prelude.{ℕ, Bool, true, false, eqb}
+use Rattle.std.specs.Prelude.{ℕ, Bool, true, false, eqb, List, [], ◌∷◌}
 
 -- the features
 pub data Feature : Type 0 where
@@ -62,6 +62,15 @@ no_assign = stage_of false false false false false false true true true false
 -- there are no loops, but folds
 abbrev pub no_loop : Stage
 no_loop = stage_of false false false false false false false true false true
+
+-- all stages, from the source on
+abbrev pub stages : List Stage
+stages = src ∷ no_place ∷ flat ∷ no_quest ∷ no_mut_arg ∷ no_exit ∷ no_assign ∷ no_loop ∷ []
+
+-- whether each feature is on, in the order of the features
+abbrev pub switches : Stage → List Bool
+switches stage =
+    stage Place ∷ stage Nested ∷ stage Quest ∷ stage MutArg ∷ stage Exit ∷ stage Assign ∷ stage Loop ∷ stage Cf ∷ stage Acc ∷ stage Fold ∷ []
 
 -- the place of a feature among them, from 0
 abbrev pub number : Feature → ℕ

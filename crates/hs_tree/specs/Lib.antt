@@ -3,7 +3,6 @@ pub mod Operation
 pub mod Plain
 pub mod Of
 pub mod Features
-pub mod Names
 pub mod Count
 pub mod Sound
 pub mod Store

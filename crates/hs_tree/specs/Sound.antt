@@ -4,7 +4,7 @@ use Rattle.std.specs.List.{AllByRecursion, IsDistinct, list_any}
 use Rattle.hs_tree.specs.Value.{ValType, U32}
 use Rattle.hs_tree.specs.Plain.{Exp, var, lit, op, Exps, no_exps, exp, Rhs, plain, Stmt, bind, set, Stmts, no_stmts, stmt, Block, ends, Function}
 use Rattle.hs_tree.specs.Features.{Feature, Assign, Stage}
-use Rattle.hs_tree.specs.Names.{is_name}
+use Rattle.hs_base.specs.Names.{is_name}
 use Rattle.hs_tree.specs.Operation.{row_types}
 use Rattle.hs_tree.specs.Count.{uses}
 

@@ -1,6 +1,7 @@
 //! Features of trees, which a type switches on or off.
 
-ghost use Rattle.std.specs.Prelude.{◌≡◌, Bool, true, false, refl};
+ghost use Rattle.std.specs.Prelude.{◌≡◌, Bool, true, false, refl, map};
+ghost use Rattle.hs_tree.specs.Features.{stage_of, switches, stages};
 
 /// The type of a node's mark where its feature is on.
 #[derive(Clone, Copy, Debug, PartialEq, Eq)]
@@ -267,35 +268,57 @@ impl Features for NoLoop {
     type Fold = On;
 }
 
+/// Which features a set has, in the order of the trait's types.
+pub fn switches<F: Features>() -> [bool; 10]
+    ensures { result ≡ switches (stage_of F.Place.on F.Nested.on F.Quest.on F.MutArg.on F.Exit.on F.Assign.on F.Loop.on F.Cf.on F.Acc.on F.Fold.on) }
+{
+    [
+        F::Place::holds(),
+        F::Nested::holds(),
+        F::Quest::holds(),
+        F::MutArg::holds(),
+        F::Exit::holds(),
+        F::Assign::holds(),
+        F::Loop::holds(),
+        F::Cf::holds(),
+        F::Acc::holds(),
+        F::Fold::holds(),
+    ]
+}
+
+/// Which features the trees of each stage may have, from the source on: those that the stage has by its definition.
+pub fn features_of_stages() -> [[bool; 10]; 8]
+    ensures { result ≡ map switches stages }
+{
+    [
+        switches::<Src>(),
+        switches::<NoPlace>(),
+        switches::<Flat>(),
+        switches::<NoQuest>(),
+        switches::<NoMutArg>(),
+        switches::<NoExit>(),
+        switches::<NoAssign>(),
+        switches::<NoLoop>(),
+    ]
+}
+
 #[cfg(test)]
 mod tests {
     use super::*;
 
-    fn switches<F: Features>() -> [bool; 10] {
-        [
-            F::Place::holds(),
-            F::Nested::holds(),
-            F::Quest::holds(),
-            F::MutArg::holds(),
-            F::Exit::holds(),
-            F::Assign::holds(),
-            F::Loop::holds(),
-            F::Cf::holds(),
-            F::Acc::holds(),
-            F::Fold::holds(),
-        ]
-    }
-
     #[test]
     fn sets_have_their_features(rt: HostRuntime) {
         let (y, n) = (true, false);
-        assert_eq!(rt; switches::<Src>(), [y, y, y, y, y, y, y, n, n, n]);
-        assert_eq!(rt; switches::<NoPlace>(), [n, y, y, y, y, y, y, n, n, n]);
-        assert_eq!(rt; switches::<Flat>(), [n, n, y, y, y, y, y, n, n, n]);
-        assert_eq!(rt; switches::<NoQuest>(), [n, n, n, y, y, y, y, n, n, n]);
-        assert_eq!(rt; switches::<NoMutArg>(), [n, n, n, n, y, y, y, n, n, n]);
-        assert_eq!(rt; switches::<NoExit>(), [n, n, n, n, n, y, y, y, n, n]);
-        assert_eq!(rt; switches::<NoAssign>(), [n, n, n, n, n, n, y, y, y, n]);
-        assert_eq!(rt; switches::<NoLoop>(), [n, n, n, n, n, n, n, y, n, y]);
+        let sets = [
+            [y, y, y, y, y, y, y, n, n, n],
+            [n, y, y, y, y, y, y, n, n, n],
+            [n, n, y, y, y, y, y, n, n, n],
+            [n, n, n, y, y, y, y, n, n, n],
+            [n, n, n, n, y, y, y, n, n, n],
+            [n, n, n, n, n, y, y, y, n, n],
+            [n, n, n, n, n, n, y, y, y, n],
+            [n, n, n, n, n, n, n, y, n, y],
+        ];
+        assert_eq!(rt; features_of_stages(), sets);
     }
 }
