@@ -1,0 +1,4 @@
+pub mod Once
+pub mod Printed
+pub mod Rows
+pub mod Pieces

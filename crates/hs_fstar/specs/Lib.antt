@@ -1,0 +1,5 @@
+pub mod Bytes
+pub mod Tokens
+pub mod Reads
+pub mod Layout
+pub mod Lines

@@ -1,0 +1,4 @@
+pub mod Keeps
+pub mod Kept
+pub mod Meanings
+pub mod OneByOne
