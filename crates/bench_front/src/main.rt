@@ -6,8 +6,8 @@
 //! `list`, a long one, texts of the whole language. Without arguments it checks a text of 2000 bytes of each kind once.
 #![tactic(auto)]
 
-use hs_base::place::Stop;
 use hs_front::check::check;
+use hs_parser::ParseStop;
 use std::alloc::{AllocError, Global};
 use std::{env, io};
 
@@ -128,7 +128,7 @@ fn text_of(alloc: Global, kind: &str, length: usize) -> Result<Option<Vec<u8>>, 
 }
 
 /// How many statements the program of a text has.
-fn statements(alloc: Global, text: &[u8]) -> Result<usize, Stop> {
+fn statements(alloc: Global, text: &[u8]) -> Result<usize, ParseStop> {
     let program = check(alloc, text)?;
     match program.functions.get(0) {
         Some(function) => Ok(function.body.block.statements.len()),
@@ -153,8 +153,9 @@ fn print_checked(
     }
     match answer {
         Ok(count) => println!(rt; "{kind} {length}: {count} statements"),
-        Err(Stop::Broken(broken)) => println!(rt; "{kind} {length}: {}", broken.rule.code()),
-        Err(Stop::NoMemory) => println!(rt; "{kind} {length}: no memory"),
+        Err(ParseStop::Broken(broken)) => println!(rt; "{kind} {length}: {}", broken.rule.code()),
+        Err(ParseStop::TooDeep) => println!(rt; "{kind} {length}: too deep"),
+        Err(ParseStop::NoMemory) => println!(rt; "{kind} {length}: no memory"),
     }
 }
 

@@ -1,7 +1,7 @@
 -- What a file is made of, where its tokens are fair: names, and numbers of 32 bits; and not too many.
 use Rattle.std.proofs.Common.{◌≡◌, inl, inr, ℕ, zero, suc, ◌^◌, ◌<◌, ◌≤◌, Bool, true, false, ◌||◌, List, [], ◌∷◌, ◌++◌, length, refl, subst, arith}
 use Rattle.std.specs.List.{AllByRecursion}
-use Rattle.hs_tree.specs.Names.{is_name}
+use Rattle.hs_base.specs.Names.{is_name}
 use Rattle.hs_grammar.specs.Form.{Pure, Tok, Map, Seq, Alt}
 use Rattle.hs_grammar.specs.Kinds.{has, starts}
 use Rattle.hs_grammar.specs.Derives.{Derivings, Derives, DerivesBy, DerivesAs}

@@ -1,19 +1,16 @@
 -- The names that tokens spell are names of programs, and the numbers that they spell are numbers of 32 bits.
-use Rattle.std.proofs.Common.{◌≡◌, ℕ, ◌^◌, ◌<◌, Bool, true, false, cond, not, ◌&&◌, ◌||◌, leb, ltb, List, [], ◌∷◌, length, codes, bytes_eq, Option, Some, None, Result, Ok, Err, All, refl, sym, ap, ◌∙◌, subst, arith}
+use Rattle.std.proofs.Common.{◌≡◌, ℕ, ◌^◌, ◌<◌, Bool, true, false, cond, not, ◌&&◌, ◌||◌, leb, ltb, List, [], ◌∷◌, length, codes, bytes_eq, Option, Some, None, Result, Ok, Err, All, refl, sym, ◌∙◌, arith}
 use Rattle.std.specs.Prelude.{filter, take, drop}
 use Rattle.std.specs.List.{list_any, list_all, prefix_len, AllByRecursion}
 use Rattle.std.proofs.lemmas.Bool.{false≢true, ltb-true}
-use Rattle.std.proofs.lemmas.Slice.Eq.{bytes_eq-Decides}
 use Rattle.std.proofs.lemmas.List.Elements.{All-head, All-tail}
 use Rattle.hs_base.specs.declared.rule.Rule.{Rule}
 use Rattle.hs_base.specs.declared.rule.Rule.TheVariants.{X3, X5, X6, S9}
-use Rattle.hs_tree.specs.Names as names
 use Rattle.hs_words.specs.declared.kinds.IntTy.{IntTy}
 use Rattle.hs_lexer.specs.declared.token.TokenKind.{TokenKind}
 use Rattle.hs_lexer.specs.declared.token.TokenKind.TheVariants as token
 use Rattle.hs_lexer.specs.declared.token.Token.{Token}
-use Rattle.hs_lexer.specs.Bytes.{is_digit, is_letter, is_word_byte}
-use Rattle.hs_lexer.specs.Words.{is_reserved}
+use Rattle.hs_base.specs.Names.{is_digit, begins_name, is_word_byte, is_reserved, is_name}
 use Rattle.hs_lexer.specs.Numbers.{fits, limited, with_suffix, integer_of, based, is_digit_of, is_run_byte, suffix_of}
 use Rattle.std.specs.Str.{all_ascii_digits}
 use Rattle.std.specs.Str.Parse.{digits_value}
@@ -34,26 +31,6 @@ use Rattle.hs_grammar.specs.Kinds.{has}
 split : (a b : Bool) → (a && b) ≡ true → (a ≡ true) × (b ≡ true)
 split true b e = (refl, e)
 split false b e = absurd (false≢true e)
-
--- what passes a test in a list of words passes it where it is one of them
-passes : (test : List ℕ → Bool) (w : List ℕ) (those : List (List ℕ)) → list_all test those ≡ true → list_any (bytes_eq w) those ≡ true → test w ≡ true
-passes test w [] all one = absurd (false≢true one)
-passes test w (t ∷ ts) all one = go (bytes_eq w t) refl one (passes test w ts (split (test t) (list_all test ts) all).1)
-  where
-    go : (b : Bool) → bytes_eq w t ≡ b → (b || list_any (bytes_eq w) ts) ≡ true → (list_any (bytes_eq w) ts ≡ true → test w ≡ true) → test w ≡ true
-    go true e h ih = subst (λ x. test x ≡ true) (sym ((bytes_eq-Decides w t).0 e)) (split (test t) (list_all test ts) all).0
-    go false e h ih = ih h
-
-all_reserved : list_all is_reserved names.reserved ≡ true
-unfolding is_reserved
-all_reserved = refl
-
-unreserved : (w : List ℕ) → is_reserved w ≡ false → list_any (bytes_eq w) names.reserved ≡ false
-unreserved w e = go (list_any (bytes_eq w) names.reserved) refl
-  where
-    go : (b : Bool) → list_any (bytes_eq w) names.reserved ≡ b → b ≡ false
-    go true h = absurd (false≢true (sym e ∙ passes is_reserved w names.reserved all_reserved h))
-    go false h = refl
 
 -- no number is a name
 suffixed : (b c : Bool) (v : ℕ) (suffix : Option IntTy) → cond b (cond c (Ok (token.Int v suffix)) (Err X6)) (Err X5) ≡ Ok token.Name → ⊥
@@ -83,14 +60,13 @@ integer_int w e =
     either_int (list_any (is_digit_of base) run) (with_suffix base (filter (is_digit_of base) run) (suffix_of ending))
     (suffix_int base (filter (is_digit_of base) run) (suffix_of ending)) e
 
--- what a name is not, and its length
-named_parts : (a b c : Bool) → cond a (Ok token.Mark) (cond b (Ok token.Reserved) (cond c (Ok token.Name) (Err S9))) ≡ Ok token.Name → (a ≡ false) × (b ≡ false) × (c ≡ true)
+-- what a name is not
+named_parts : (a b c : Bool) → cond a (Ok token.Mark) (cond b (Ok token.Reserved) (cond c (Ok token.Name) (Err S9))) ≡ Ok token.Name → (a ≡ false) × (b ≡ false)
 named_parts true b c e = absurd (cc e)
 named_parts false true c e = absurd (cc e)
-named_parts false false false e = absurd (cc e)
-named_parts false false true e = (refl, refl, refl)
+named_parts false false c e = (refl, refl)
 
-name_parts : (w : List ℕ) → kind_of_name w ≡ Ok token.Name → (bytes_eq w (codes "_") ≡ false) × (is_reserved w ≡ false) × (leb (length w) 64 ≡ true)
+name_parts : (w : List ℕ) → kind_of_name w ≡ Ok token.Name → (bytes_eq w (codes "_") ≡ false) × (is_reserved w ≡ false)
 unfolding kind_of_name
 name_parts w e = named_parts (bytes_eq w (codes "_")) (is_reserved w) (leb (length w) 64) e
 
@@ -102,32 +78,28 @@ word_parts : (b : ℕ) (bs : List ℕ) → kind_of_word (b ∷ bs) ≡ Ok token.
 unfolding kind_of_word
 word_parts b bs e = begins_letter b bs (is_digit b) refl e
 
-letter_from : (a b : Bool) → (a || b) ≡ true → b ≡ false → a ≡ true
-letter_from true b e f = refl
-letter_from false b e f = absurd (false≢true (sym f ∙ e))
+-- a byte of words that is no digit begins names
+begins_from : (a b : Bool) → (a || b) ≡ true → b ≡ false → a ≡ true
+begins_from true b e f = refl
+begins_from false b e f = absurd (false≢true (sym f ∙ e))
 
-is_letter_of : (b : ℕ) → is_word_byte b ≡ true → is_digit b ≡ false → names.is_letter b ≡ true
-unfolding is_word_byte is_letter
-is_letter_of b e f = letter_from (is_letter b) (is_digit b) e f
+begins_of : (b : ℕ) → is_word_byte b ≡ true → is_digit b ≡ false → begins_name b ≡ true
+unfolding is_word_byte
+begins_of b e f = begins_from (begins_name b) (is_digit b) e f
 
-same_bytes : (bs : List ℕ) → list_all is_word_byte bs ≡ list_all names.is_word_byte bs
-unfolding is_word_byte is_letter is_digit
-same_bytes [] = refl
-same_bytes (b ∷ bs) = ap (λ x. names.is_word_byte b && x) (same_bytes bs)
-
-all_four : (a b c d e : Bool) → a ≡ true → b ≡ true → c ≡ true → d ≡ false → e ≡ false → ((a && b) && c && not d && not e) ≡ true
-all_four a b c d e f g h i j = rw (f, g, h, i, j) refl
+all_four : (a b c d : Bool) → a ≡ true → b ≡ true → c ≡ false → d ≡ false → (a && b && not c && not d) ≡ true
+all_four a b c d e f g h = rw (e, f, g, h) refl
 
 -- the bytes that spell a name are one
-pub spelled_name : (w : List ℕ) → is_word w ≡ true → kind_of_word w ≡ Ok token.Name → names.is_name w ≡ true
-unfolding is_word
+pub spelled_name : (w : List ℕ) → is_word w ≡ true → kind_of_word w ≡ Ok token.Name → is_name w ≡ true
+unfolding is_word is_name
 spelled_name [] e f = absurd (false≢true e)
 spelled_name (b ∷ bs) e f =
     let bytes = split (is_word_byte b) (list_all is_word_byte bs) e in
     let word = word_parts b bs f in
     let name = name_parts (b ∷ bs) word.1 in
-    all_four (names.is_letter b) (list_all names.is_word_byte bs) (leb (length (b ∷ bs)) 64) (bytes_eq (b ∷ bs) (codes "_")) (list_any (bytes_eq (b ∷ bs)) names.reserved)
-    (is_letter_of b bytes.0 word.0) (sym (same_bytes bs) ∙ bytes.1) name.2 name.0 (unreserved (b ∷ bs) name.1)
+    all_four (begins_name b) (list_all is_word_byte bs) (bytes_eq (b ∷ bs) (codes "_")) (is_reserved (b ∷ bs))
+    (begins_of b bytes.0 word.0) bytes.1 name.0 name.1
 
 -- ---- kinds
 
@@ -166,7 +138,7 @@ name_token token.Mark w e = absurd (false≢true (sym (mark_no_name w) ∙ e))
 
 -- a name's bytes are a name, and a number's value is one of 32 bits
 pub record IsFair (text : List ℕ) (s : Symbol) : Type 0 where
-  pub named : has lexis names_kinds s.kind ≡ true → names.is_name (text_at text s.span) ≡ true
+  pub named : has lexis names_kinds s.kind ≡ true → is_name (text_at text s.span) ≡ true
   pub short : s.value < 2 ^ 32
 
 below : (b : Bool) (v : ℕ) → ltb v (2 ^ 32) ≡ b → cond b v 0 < 2 ^ 32

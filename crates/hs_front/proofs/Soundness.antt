@@ -4,12 +4,12 @@ use Rattle.std.proofs.lemmas.List.{length-map}
 use Rattle.std.proofs.lemmas.Bool.Decides.{eqb_tells}
 use Rattle.std.proofs.lemmas.Map.Keys.{IsDistinct-cons}
 use Rattle.std.specs.List.{AllByRecursion, IsDistinct, list_any}
-use Rattle.hs_base.specs.declared.place.Stop.{Stop}
+use Rattle.hs_parser.specs.declared.stop.ParseStop.{ParseStop}
 use Rattle.hs_base.specs.declared.rule.Rule.TheVariants.{N3, N10}
 use Rattle.hs_tree.specs.Value.{U32}
 use Rattle.hs_tree.specs.Plain as tree
 use Rattle.hs_tree.specs.Of.{stmts_of}
-use Rattle.hs_tree.specs.Names as names
+use Rattle.hs_base.specs.Names.{is_name}
 use Rattle.hs_tree.specs.Features.{Feature, src}
 use Rattle.hs_tree.specs.Count.{uses}
 use Rattle.hs_tree.specs.Sound.{ScopedExp, ScopedRhs, ScopedStmts, binds_stmts, TypedExp, TypedStmts, SoundFunction, Sound}
@@ -192,11 +192,11 @@ module _ (text : List ℕ) where
 
   -- ---- names
 
-  params_named : (ps : List Span) → AllByRecursion (IsNamed text) ps → AllByRecursion (λ w. names.is_name w ≡ true) (map (text_at text) ps)
+  params_named : (ps : List Span) → AllByRecursion (IsNamed text) ps → AllByRecursion (λ w. is_name w ≡ true) (map (text_at text) ps)
   params_named [] h = tt
   params_named (p ∷ ps) (a, h) = (a, params_named ps h)
 
-  bound_named : (xs : List Stmt) → AllByRecursion (StmtFair text) xs → AllByRecursion (λ w. names.is_name w ≡ true) (names_bound text xs)
+  bound_named : (xs : List Stmt) → AllByRecursion (StmtFair text) xs → AllByRecursion (λ w. is_name w ≡ true) (names_bound text xs)
   bound_named [] h = tt
   bound_named (stmts.Let b n s ∷ xs) ((a, f), h) = (a, bound_named xs h)
   bound_named (stmts.Set n s ∷ xs) (f, h) = bound_named xs h
@@ -230,7 +230,7 @@ module _ (text : List ℕ) where
       let few = fair.few in
       let one : SoundFunction _ = record {
         name = fair.name;
-        locals = both_all (λ w. names.is_name w ≡ true) (map (text_at text) ps) (names_bound text xs) (params_named ps fair.params) (bound_named xs fair.body.0);
+        locals = both_all (λ w. is_name w ≡ true) (map (text_at text) ps) (names_bound text xs) (params_named ps fair.params) (bound_named xs fair.body.0);
         few = omega (arith, few, params_length 0 ps);
         apart = subst (IsDistinct eqb) (sym locals) (upto_once 0 (length ps));
         within = params_within 0 count ps (omega (arith, total));
@@ -249,7 +249,7 @@ module _ (text : List ℕ) where
       }
 
   -- the program that the steps give is sound
-  pub given_sound : (f : File) → FileFair text f → {A : Type 0} (of : A → List tree.Function) (r : Result A Stop) → Gives text (file_walk text f) of r
+  pub given_sound : (f : File) → FileFair text f → {A : Type 0} (of : A → List tree.Function) (r : Result A ParseStop) → Gives text (file_walk text f) of r
       → IfOk r (λ x. (y : Feature) → src y ≡ false → uses y (of x) ≡ 0) → IfOk r (λ x. Sound src (of x))
   given_sound f fair of (Ok x) g absent =
       let made = subst (FileAgrees text f) g (file_agrees text f) in

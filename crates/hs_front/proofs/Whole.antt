@@ -2,7 +2,9 @@
 use Rattle.std.proofs.Common.{◌≡◌, ◌⊎◌, inl, inr, ℕ, List, [], ◌∷◌, ◌++◌, length, Result, Ok, Err, IfOk, refl, sym, ap, ◌∙◌, subst, append_assoc, arith}
 use Rattle.hs_base.specs.declared.place.Broken.{Broken}
 use Rattle.hs_base.specs.declared.place.Stop.{Stop}
-use Rattle.hs_base.specs.declared.place.Stop.TheVariants as stop
+use Rattle.hs_base.specs.declared.place.Stop.TheVariants as lexed
+use Rattle.hs_parser.specs.declared.stop.ParseStop.{ParseStop}
+use Rattle.hs_parser.specs.declared.stop.ParseStop.TheVariants as stop
 use Rattle.hs_tree.specs.Plain as tree
 use Rattle.hs_grammar.specs.Derives.{DerivesAs}
 use Rattle.hs_grammar.specs.Break.{Breaks, CannotGoOn}
@@ -10,8 +12,8 @@ use Rattle.hs_grammar.specs.Whole.{ParseBreak}
 use Rattle.hs_lexer.specs.declared.token.Token.{Token}
 use Rattle.hs_lexer.specs.Places.{Placed}
 use Rattle.hs_lexer.specs.Lexes.{Lexes, LexBreak}
-use Rattle.hs_syntax.specs.declared.item.File.{File as Whole}
-use Rattle.hs_parser.specs.Told.{IsRead, Tells}
+use Rattle.hs_syntax.specs.declared.file.File.{File as Whole}
+use Rattle.hs_parser.specs.Told.{IsRead, Tells, Unanswered}
 use Rattle.hs_front.specs.declared.symbol.Symbol.{Symbol}
 use Rattle.hs_front.specs.declared.syntax.File.{File}
 use Rattle.hs_front.specs.Symbols.{symbols_of}
@@ -20,7 +22,7 @@ use Rattle.hs_front.specs.Marks.{Mark, name_marks, type_marks, IsFirst}
 use Rattle.hs_front.specs.Program.{program_from}
 use Rattle.hs_front.specs.Told.{AcceptedBehind, AcceptedTokens, Accepted, break_at, told_at, FileBreak, ToldBehind, ToldTokens, Told}
 use Rattle.hs_front.specs.Walk.{Makes, Breaks as Marked, file_walk, Gives}
-use Rattle.hs_front.specs.Answers.{Only, IsMemory, OnlyBreak, IsBreak, OnBreak}
+use Rattle.hs_front.specs.Answers.{Only, IsFree, OnlyBreak, IsBreak, OnBreak}
 use Rattle.hs_front.proofs.Walked.{IsHead, FileAgrees, file_agrees}
 use Rattle.hs_front.proofs.Order.{Spread, marks_ends, file_spread, names_spread, types_spread, head_first, first_head}
 
@@ -98,19 +100,20 @@ module _ (text : List ℕ) (tokens : List Token) (placed : Placed 0 (length text
   no_mark f p n (e, g, h) (inr (k, i)) = (subst (IsFirst n) g i).0
 
   module _ {A : Type 0} (of : A → List tree.Function) (f : File) (d : DerivesAs written AFile (symbols_of text tokens) f) where
-    pub file_accepted : (r : Result A Stop) → Gives text (file_walk text f) of r → IfOk r (λ p. AcceptedBehind text tokens (of p))
+    pub file_accepted : (r : Result A ParseStop) → Gives text (file_walk text f) of r → IfOk r (λ p. AcceptedBehind text tokens (of p))
     file_accepted (Ok x) g = let made = subst (FileAgrees text f) g (file_agrees text f) in (f, d, made.0, made.1, made.2)
     file_accepted (Err e) g = tt
 
-    pub file_told : (r : Result A Stop) → Gives text (file_walk text f) of r → OnBreak r (ToldBehind text tokens)
+    pub file_told : (r : Result A ParseStop) → Gives text (file_walk text f) of r → OnBreak r (ToldBehind text tokens)
     file_told (Ok x) g = tt
     file_told (Err (stop.Broken b)) (m, e, i) = inr (f, d, subst (FileBreak text f) (sym i) (mark_told f m d e))
+    file_told (Err stop.TooDeep) g = absurd g
     file_told (Err stop.NoMemory) g = tt
 
-    pub file_only : (r : Result A Stop) → Gives text (file_walk text f) of r → (p : List tree.Function) → AcceptedBehind text tokens p → Only of p r
+    pub file_only : (r : Result A ParseStop) → Gives text (file_walk text f) of r → (p : List tree.Function) → AcceptedBehind text tokens p → Only of p r
     file_only r g p (h, c, n, t, e) = go r g
       where
-        go : (r : Result A Stop) → Gives text (file_walk text f) of r → Only of p r
+        go : (r : Result A ParseStop) → Gives text (file_walk text f) of r → Only of p r
         go (Ok x) g = let made = subst (FileAgrees text f) g (file_agrees text f) in made.2 ∙ (ap (program_from text) (unique (symbols_of text tokens) f h d c) ∙ sym e)
         go (Err (stop.Broken b)) (m, k, i) =
             let same : f ≡ h = unique (symbols_of text tokens) f h d c in
@@ -118,13 +121,14 @@ module _ (text : List ℕ) (tokens : List Token) (placed : Placed 0 (length text
               | inl q ↦ no_head m (name_marks text f) (ap (name_marks text) same ∙ n) q
               | inr q ↦ no_head m (type_marks text f) (ap (type_marks text) same ∙ t) q.1
             ]
+        go (Err stop.TooDeep) g = absurd g
         go (Err stop.NoMemory) g = tt
 
-    pub file_only_break : (r : Result A Stop) → Gives text (file_walk text f) of r → (b : Broken) → ToldBehind text tokens b → OnlyBreak b r
+    pub file_only_break : (r : Result A ParseStop) → Gives text (file_walk text f) of r → (b : Broken) → ToldBehind text tokens b → OnlyBreak b r
     file_only_break r g b (inl (at, (rest, h, n), i)) = absurd (apart (symbols_of text tokens) rest f h d)
     file_only_break r g b (inr (h, c, (m, i, first))) = go r g
       where
-        go : (r : Result A Stop) → Gives text (file_walk text f) of r → OnlyBreak b r
+        go : (r : Result A ParseStop) → Gives text (file_walk text f) of r → OnlyBreak b r
         go (Ok x) g =
             no_mark f (of x) m (subst (FileAgrees text f) g (file_agrees text f))
             (subst (λ (q : File). IsFirst m (name_marks text q) ⊎ ((name_marks text q ≡ []) × IsFirst m (type_marks text q))) (sym (unique (symbols_of text tokens) f h d c)) first)
@@ -132,6 +136,7 @@ module _ (text : List ℕ) (tokens : List Token) (placed : Placed 0 (length text
             let one : l ≡ m = mark_only f l m d (subst (FileAgrees text f) k (file_agrees text f))
             (subst (λ (q : File). IsFirst m (name_marks text q) ⊎ ((name_marks text q ≡ []) × IsFirst m (type_marks text q))) (sym (unique (symbols_of text tokens) f h d c)) first) in
             j ∙ (ap (told_at text) one ∙ sym i)
+        go (Err stop.TooDeep) g = absurd g
         go (Err stop.NoMemory) g = tt
 
   -- ---- the answer where the tokens break the grammar
@@ -150,28 +155,29 @@ module _ (text : List ℕ) (tokens : List Token) (placed : Placed 0 (length text
 
 -- what the parser answered
 abbrev Parsed : Type 0
-Parsed = Result Whole Stop
+Parsed = Result Whole ParseStop
 
 abbrev parsed_ok : Whole → Parsed
 parsed_ok x = Ok x
 
-abbrev parsed_err : Stop → Parsed
+abbrev parsed_err : ParseStop → Parsed
 parsed_err s = Err s
 
 module _ (text : List ℕ) (tokens : List Token) where
   -- a file of the whole language
-  pub whole_only_break : {A : Type 0} (r : Result A Stop) → ((b : Broken) → Tells text tokens b → ⊥) → ((b : Broken) → ToldBehind text tokens b → OnlyBreak b r)
+  pub whole_only_break : {A : Type 0} (r : Result A ParseStop) → ((b : Broken) → Tells text tokens b → ⊥) → ((b : Broken) → ToldBehind text tokens b → OnlyBreak b r)
       → (b : Broken) → ToldTokens text tokens b → OnlyBreak b r
   whole_only_break r none h b (inl t) = absurd (none b t)
   whole_only_break r none h b (inr (w, t)) = h b t
 
   -- none
-  pub none_only_break : (s : Stop) → ((x : Whole) → IsRead text tokens x → (parsed_err s ≡ parsed_ok x) ⊎ (parsed_err s ≡ parsed_err stop.NoMemory))
-      → ((b : Broken) → Tells text tokens b → (parsed_err s ≡ parsed_err (stop.Broken b)) ⊎ (parsed_err s ≡ parsed_err stop.NoMemory))
+  pub none_only_break : (s : ParseStop) → ((x : Whole) → IsRead text tokens x → (parsed_err s ≡ parsed_ok x) ⊎ Unanswered (parsed_err s))
+      → ((b : Broken) → Tells text tokens b → (parsed_err s ≡ parsed_err (stop.Broken b)) ⊎ Unanswered (parsed_err s))
       → (b : Broken) → ToldTokens text tokens b → IsBreak b s
   none_only_break stop.NoMemory h k b t = tt
-  none_only_break (stop.Broken c) h k b (inl t) = elim (k b t) [ inl e ↦ cc | inr e ↦ absurd (cc) ]
-  none_only_break (stop.Broken c) h k b (inr ((x, r), t)) = elim (h x r) [ inl e ↦ absurd (cc) | inr e ↦ absurd (cc) ]
+  none_only_break stop.TooDeep h k b t = tt
+  none_only_break (stop.Broken c) h k b (inl t) = elim (k b t) [ inl e ↦ cc | inr (inl e) ↦ absurd (cc) | inr (inr e) ↦ absurd (cc) ]
+  none_only_break (stop.Broken c) h k b (inr ((x, r), t)) = elim (h x r) [ inl e ↦ absurd (cc) | inr (inl e) ↦ absurd (cc) | inr (inr e) ↦ absurd (cc) ]
 
 -- ---- the answer for a text
 
@@ -201,19 +207,20 @@ module _ (text : List ℕ) (one : (ts us : List Token) → Lexes text ts → Lex
       first_apart f m n t (subst (λ (q : File). IsFirst m (name_marks text q) ⊎ ((name_marks text q ≡ []) × IsFirst m (type_marks text q))) same first)
 
   module _ {A : Type 0} (of : A → List tree.Function) (ts : List Token) (l : Lexes text ts) where
-    pub behind_accepted : (r : Result A Stop) → IfOk r (λ p. AcceptedTokens text ts (of p)) → IfOk r (λ p. Accepted text (of p))
+    pub behind_accepted : (r : Result A ParseStop) → IfOk r (λ p. AcceptedTokens text ts (of p)) → IfOk r (λ p. Accepted text (of p))
     behind_accepted (Ok x) h = (ts, l, h)
     behind_accepted (Err e) h = tt
 
-    pub behind_told : (r : Result A Stop) → OnBreak r (ToldTokens text ts) → OnBreak r (Told text)
+    pub behind_told : (r : Result A ParseStop) → OnBreak r (ToldTokens text ts) → OnBreak r (Told text)
     behind_told (Ok x) h = tt
     behind_told (Err (stop.Broken b)) h = inr (ts, l, h)
+    behind_told (Err stop.TooDeep) h = tt
     behind_told (Err stop.NoMemory) h = tt
 
-    pub behind_only : (r : Result A Stop) → ((p : List tree.Function) → AcceptedTokens text ts p → Only of p r) → (p : List tree.Function) → Accepted text p → Only of p r
+    pub behind_only : (r : Result A ParseStop) → ((p : List tree.Function) → AcceptedTokens text ts p → Only of p r) → (p : List tree.Function) → Accepted text p → Only of p r
     behind_only r h p (us, k, a) = h p (subst (λ vs. AcceptedTokens text vs p) (one us ts k l) a)
 
-    pub behind_only_break : (r : Result A Stop) → ((b : Broken) → ToldTokens text ts b → OnlyBreak b r) → (b : Broken) → Told text b → OnlyBreak b r
+    pub behind_only_break : (r : Result A ParseStop) → ((b : Broken) → ToldTokens text ts b → OnlyBreak b r) → (b : Broken) → Told text b → OnlyBreak b r
     behind_only_break r h b (inl k) = absurd (lexed_apart ts b l k)
     behind_only_break r h b (inr (us, k, a)) = h b (subst (λ vs. ToldTokens text vs b) (one us ts k l) a)
 
@@ -229,15 +236,19 @@ lexed_ok ts = Ok ts
 abbrev lexed_err : Stop → Lexed
 lexed_err s = Err s
 
-module _ (text : List ℕ) where
-  pub stop_only : (s : Stop) → ((ts : List Token) → Lexes text ts → (lexed_err s ≡ lexed_ok ts) ⊎ (lexed_err s ≡ lexed_err stop.NoMemory))
-      → (p : List tree.Function) → Accepted text p → IsMemory s
-  stop_only stop.NoMemory h p a = tt
-  stop_only (stop.Broken b) h p (ts, l, a) = elim (h ts l) [ inl e ↦ cc | inr e ↦ cc ]
+-- the same stop, of the parser
+abbrev parse_stop : Stop → ParseStop
+parse_stop s = elim s [ lexed.Broken b ↦ stop.Broken b | lexed.NoMemory ↦ stop.NoMemory ]
 
-  pub stop_only_break : (s : Stop) → ((ts : List Token) → Lexes text ts → (lexed_err s ≡ lexed_ok ts) ⊎ (lexed_err s ≡ lexed_err stop.NoMemory))
-      → ((b : Broken) → LexBreak text b → (lexed_err s ≡ lexed_err (stop.Broken b)) ⊎ (lexed_err s ≡ lexed_err stop.NoMemory))
-      → (b : Broken) → Told text b → IsBreak b s
-  stop_only_break stop.NoMemory h k b t = tt
-  stop_only_break (stop.Broken c) h k b (inl l) = elim (k b l) [ inl e ↦ cc | inr e ↦ absurd (cc) ]
-  stop_only_break (stop.Broken c) h k b (inr (ts, l, t)) = elim (h ts l) [ inl e ↦ absurd (cc) | inr e ↦ absurd (cc) ]
+module _ (text : List ℕ) where
+  pub stop_only : (s : Stop) (t : ParseStop) → t ≡ parse_stop s → ((ts : List Token) → Lexes text ts → (lexed_err s ≡ lexed_ok ts) ⊎ (lexed_err s ≡ lexed_err lexed.NoMemory))
+      → (p : List tree.Function) → Accepted text p → IsFree t
+  stop_only lexed.NoMemory t i h p a = subst IsFree (sym i) tt
+  stop_only (lexed.Broken b) t i h p (ts, l, a) = absurd (elim (h ts l) [ inl e ↦ cc | inr e ↦ cc ])
+
+  pub stop_only_break : (s : Stop) (t : ParseStop) → t ≡ parse_stop s → ((ts : List Token) → Lexes text ts → (lexed_err s ≡ lexed_ok ts) ⊎ (lexed_err s ≡ lexed_err lexed.NoMemory))
+      → ((b : Broken) → LexBreak text b → (lexed_err s ≡ lexed_err (lexed.Broken b)) ⊎ (lexed_err s ≡ lexed_err lexed.NoMemory))
+      → (b : Broken) → Told text b → IsBreak b t
+  stop_only_break lexed.NoMemory t i h k b a = subst (IsBreak b) (sym i) tt
+  stop_only_break (lexed.Broken c) t i h k b (inl l) = subst (IsBreak b) (sym i) (elim (k b l) [ inl e ↦ cc | inr e ↦ absurd (cc) ])
+  stop_only_break (lexed.Broken c) t i h k b (inr (ts, l, a)) = absurd (elim (h ts l) [ inl e ↦ cc | inr e ↦ cc ])

@@ -1,14 +1,16 @@
 -- Which texts are accepted, the program of each, and the rule and the place that are told of any other.
-use Rattle.std.specs.Prelude.{◌≡◌, ◌⊎◌, ℕ, List, [], length, take, slice_get, Option, Some, None}
+use Rattle.std.specs.Prelude.{◌≡◌, ◌⊎◌, ℕ, List, [], length, slice_get, Option, Some, None}
 use Rattle.hs_base.specs.declared.rule.Rule.TheVariants.{G8}
 use Rattle.hs_base.specs.declared.place.Broken.{Broken}
+use Rattle.hs_base.specs.Positions as positions
 use Rattle.hs_tree.specs.Plain as tree
 use Rattle.hs_grammar.specs.Derives.{DerivesAs}
 use Rattle.hs_grammar.specs.Whole.{ParseBreak}
 use Rattle.hs_lexer.specs.declared.token.Token.{Token}
-use Rattle.hs_lexer.specs.Lexes.{Lexes, LexBreak, place_behind}
-use Rattle.hs_syntax.specs.declared.item.File.{File as Whole}
-use Rattle.hs_parser.specs.Told.{IsRead, Tells}
+use Rattle.hs_lexer.specs.Lexes.{Lexes, LexBreak}
+use Rattle.hs_syntax.specs.declared.file.File.{File as Whole}
+use Rattle.hs_forms.specs.Tokens.{tokens_of}
+use Rattle.hs_parser.specs.Told.{IsRead, Tells, NestsTooDeep}
 use Rattle.hs_front.specs.declared.syntax.File.{File}
 use Rattle.hs_front.specs.Symbols.{symbols_of}
 use Rattle.hs_front.specs.Language.{AFile, written}
@@ -39,7 +41,7 @@ start_of text None = length text
 
 -- G8 at the token of this number, or at the end
 abbrev pub break_at : List ℕ → List Token → ℕ → Broken
-break_at text tokens at = record { rule = G8; at = place_behind (take (start_of text (slice_get tokens at)) text) }
+break_at text tokens at = positions.told_at text G8 (start_of text (slice_get tokens at))
 
 -- the tokens break the first language's grammar: G8 is told at the first with which no file of it goes on, or at the end
 -- where they end too early
@@ -49,7 +51,7 @@ GrammarBreak text tokens b =
 
 -- a mark is told at its name's first byte
 abbrev pub told_at : List ℕ → Mark → Broken
-told_at text m = record { rule = m.rule; at = place_behind (take m.at.start text) }
+told_at text m = positions.told_at text m.rule m.at.start
 
 -- the file breaks rules on names, the first of which is told, or else on types
 abbrev pub FileBreak : List ℕ → File → Broken → Type 0
@@ -71,3 +73,7 @@ ToldTokens text tokens b = Tells text tokens b ⊎ (IsWhole text tokens × ToldB
 -- this is told of the text: what breaks its tokens, or else what is told of these
 abbrev pub Told : List ℕ → Broken → Type 0
 Told text b = LexBreak text b ⊎ ((tokens : List Token) × Lexes text tokens × ToldTokens text tokens b)
+
+-- the text has tokens, which nest deeper than is always read
+abbrev pub NestsTooDeepIn : List ℕ → Type 0
+NestsTooDeepIn text = (tokens : List Token) × Lexes text tokens × NestsTooDeep (tokens_of text tokens)

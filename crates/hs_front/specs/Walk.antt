@@ -2,8 +2,8 @@
 use Rattle.std.specs.Prelude.{◌≡◌, ℕ, List, [], ◌∷◌, ◌++◌, length, Bool, bytes_eq, Option, Some, None, Result, Ok, Err, if◌then◌else◌}
 use Rattle.std.specs.List.{list_any}
 use Rattle.hs_base.specs.declared.rule.Rule.TheVariants.{N3, N6, N10, T11}
-use Rattle.hs_base.specs.declared.place.Stop.{Stop}
-use Rattle.hs_base.specs.declared.place.Stop.TheVariants as stop
+use Rattle.hs_parser.specs.declared.stop.ParseStop.{ParseStop}
+use Rattle.hs_parser.specs.declared.stop.ParseStop.TheVariants as stop
 use Rattle.hs_tree.specs.Plain as tree
 use Rattle.hs_tree.specs.Of.{stmts_of}
 use Rattle.hs_front.specs.declared.syntax.Span.{Span}
@@ -82,13 +82,15 @@ module _ (text : List ℕ) where
       >>= λ b. type_walk (with_params text f.parameters []) f.body.statements >>= λ _. Makes (around text f b)
 
   -- the answer is what the steps give, seen through a function; or there was no memory
-  abbrev pub Gives : {A B : Type 0} → Walk B → (A → B) → Result A Stop → Type 0
+  abbrev pub Gives : {A B : Type 0} → Walk B → (A → B) → Result A ParseStop → Type 0
   Gives o f (Ok x) = o ≡ Makes (f x)
   Gives o f (Err (stop.Broken b)) = (m : Mark) × (o ≡ Breaks m) × (b ≡ told_at text m)
+  Gives o f (Err stop.TooDeep) = ⊥
   Gives o f (Err stop.NoMemory) = Unit {0}
 
   -- the same, with the locals in scope behind it
-  abbrev pub GivesIn : {A B : Type 0} → Walk (B × Scope) → (A → B) → Result A Stop → Scope → Type 0
+  abbrev pub GivesIn : {A B : Type 0} → Walk (B × Scope) → (A → B) → Result A ParseStop → Scope → Type 0
   GivesIn o f (Ok x) scope = o ≡ Makes (with_scope (f x) scope)
   GivesIn o f (Err (stop.Broken b)) scope = (m : Mark) × (o ≡ Breaks m) × (b ≡ told_at text m)
+  GivesIn o f (Err stop.TooDeep) scope = ⊥
   GivesIn o f (Err stop.NoMemory) scope = Unit {0}

@@ -1,25 +1,26 @@
 //! The check of a text.
 
-ghost use Rattle.std.specs.Prelude.{◌≡◌, List, All, IfOk, length};
+ghost use Rattle.std.specs.Prelude.{◌≡◌, ◌≢◌, List, All, IfOk, length};
 ghost use Rattle.hs_base.specs.declared.place.Broken.{Broken};
 ghost use Rattle.hs_lexer.specs.Places.{Placed, IsNamed};
 ghost use Rattle.hs_tree.specs.Features.{src};
 ghost use Rattle.hs_tree.specs.Sound.{Sound};
 ghost use Rattle.hs_tree.specs.Of.{program_of};
 ghost use Rattle.hs_tree.specs.Plain as tree;
-ghost use Rattle.hs_front.specs.Told.{Accepted, AcceptedBehind, AcceptedTokens, Told, ToldBehind, ToldTokens, break_at};
+ghost use Rattle.hs_forms.specs.Tokens.{tokens_of};
+ghost use Rattle.hs_parser.specs.Told.{NestsTooDeep};
+ghost use Rattle.hs_front.specs.Told.{Accepted, AcceptedBehind, AcceptedTokens, Told, ToldBehind, ToldTokens, NestsTooDeepIn, break_at};
 ghost use Rattle.hs_front.specs.Answers.{Only, OnlyBreak, OnBreak};
 
 use crate::parse::{Language, read};
 use crate::resolve::Resolver;
 use crate::symbol::symbols;
-use crate::words::front;
-use hs_base::place::{Broken, Stop};
+use hs_base::place::Broken;
 use hs_base::rule::Rule;
 use hs_grammar::error::Refusal;
 use hs_grammar::grammar::exact;
-use hs_lexer::{Token, lex, place_behind};
-use hs_parser::{parse, unambiguous};
+use hs_lexer::{Token, Tokens, lex};
+use hs_parser::{ParseStop, parse, unambiguous};
 use hs_tree::features::Src;
 use hs_tree::program::Program;
 use std::alloc::Global;
@@ -28,20 +29,17 @@ use std::alloc::Global;
 fn grammar_break(text: &[u8], tokens: &[Token], number: usize) -> Broken
     ensures { result ≡ break_at text.now tokens.now number }
 {
-    let before = match tokens.get(number) {
-        Some(token) => front(text, token.start as usize),
-        None => text,
+    let byte = match tokens.get(number) {
+        Some(token) => token.start as usize,
+        None => text.len(),
     };
-    Broken {
-        rule: Rule::G8,
-        at: place_behind(before),
-    }
+    Broken::told_at(text, Rule::G8, byte)
 }
 
 /// The program of a text with these tokens.
 ///
 /// Broken: the first token with which no file goes on, or the first name that breaks a rule.
-fn checked(alloc: Global, bytes: &[u8], tokens: &[Token]) -> Result<Program<Src>, Stop>
+fn checked(alloc: Global, bytes: &[u8], tokens: &[Token]) -> Result<Program<Src>, ParseStop>
     requires placed { Placed 0 (length bytes.now) tokens.now }
     requires named { All (IsNamed bytes.now) tokens.now }
     ensures accepted { IfOk result (λ p. AcceptedBehind bytes.now tokens.now (program_of p)) }
@@ -49,13 +47,14 @@ fn checked(alloc: Global, bytes: &[u8], tokens: &[Token]) -> Result<Program<Src>
     ensures told { OnBreak result (ToldBehind bytes.now tokens.now) }
     ensures only_program { (p : List tree.Function) → AcceptedBehind bytes.now tokens.now p → Only program_of p result }
     ensures only_break { (b : Broken) → ToldBehind bytes.now tokens.now b → OnlyBreak b result }
+    ensures not_deep { result ≢ Err ParseStop.TooDeep }
 {
     exact::<Language>();
     let seen = symbols(alloc, bytes, tokens)?;
     match read(alloc, seen.as_slice()) {
         Ok(file) => Resolver::new(alloc, bytes).program(&file),
-        Err(Refusal::At(number)) => Err(Stop::Broken(grammar_break(bytes, tokens, number))),
-        Err(Refusal::NoMemory) => Err(Stop::NoMemory),
+        Err(Refusal::At(number)) => Err(ParseStop::Broken(grammar_break(bytes, tokens, number))),
+        Err(Refusal::NoMemory) => Err(ParseStop::NoMemory),
         Err(Refusal::TooDeep) => unreachable!(),
     }
 }
@@ -63,7 +62,7 @@ fn checked(alloc: Global, bytes: &[u8], tokens: &[Token]) -> Result<Program<Src>
 /// The program of a text with these tokens, which the whole language's grammar is to derive too.
 ///
 /// Broken: what `parse` tells, and else what `checked` does.
-fn behind_tokens(alloc: Global, bytes: &[u8], tokens: &[Token]) -> Result<Program<Src>, Stop>
+fn behind_tokens(alloc: Global, bytes: &[u8], tokens: &Tokens) -> Result<Program<Src>, ParseStop>
     requires placed { Placed 0 (length bytes.now) tokens.now }
     requires named { All (IsNamed bytes.now) tokens.now }
     ensures accepted { IfOk result (λ p. AcceptedTokens bytes.now tokens.now (program_of p)) }
@@ -71,10 +70,11 @@ fn behind_tokens(alloc: Global, bytes: &[u8], tokens: &[Token]) -> Result<Progra
     ensures told { OnBreak result (ToldTokens bytes.now tokens.now) }
     ensures only_program { (p : List tree.Function) → AcceptedTokens bytes.now tokens.now p → Only program_of p result }
     ensures only_break { (b : Broken) → ToldTokens bytes.now tokens.now b → OnlyBreak b result }
+    ensures too_deep { result ≡ Err ParseStop.TooDeep → NestsTooDeep (tokens_of bytes.now tokens.now) }
 {
     unambiguous();
     parse(alloc, tokens, bytes)?;
-    checked(alloc, bytes, tokens)
+    checked(alloc, bytes, tokens.as_slice())
 }
 
 /// The program of the text, exactly where the language accepts it.
@@ -86,20 +86,21 @@ fn behind_tokens(alloc: Global, bytes: &[u8], tokens: &[Token]) -> Result<Progra
 /// parameters and 1,024 statements, a sum at most 61 `+`. Of a file of the first language the first name in the text that
 /// breaks a rule is told: N6, a parameter's name that stands before; N3, a name in a sum that is no local's in scope; N10, an
 /// assigned name that is none. Where there is none of these, T11 is told at the first assigned name whose local is not `mut`.
-/// `NoMemory` comes only for want of memory, or where rules nest too deep, as `parse` says.
-pub fn check(alloc: Global, bytes: &[u8]) -> Result<Program<Src>, Stop>
+/// `TooDeep` comes only where the tokens nest deeper than `parse` always reads. `NoMemory` comes only for want of memory.
+pub fn check(alloc: Global, bytes: &[u8]) -> Result<Program<Src>, ParseStop>
     ensures accepted { IfOk result (λ p. Accepted bytes.now (program_of p)) }
     ensures sound { IfOk result (λ p. Sound src (program_of p)) }
     ensures told { OnBreak result (Told bytes.now) }
     ensures only_program { (p : List tree.Function) → Accepted bytes.now p → Only program_of p result }
     ensures only_break { (b : Broken) → Told bytes.now b → OnlyBreak b result }
+    ensures too_deep { result ≡ Err ParseStop.TooDeep → NestsTooDeepIn bytes.now }
     ensures one { (p q : List tree.Function) → Accepted bytes.now p → Accepted bytes.now q → p ≡ q }
     ensures apart { (p : List tree.Function) (b : Broken) → Accepted bytes.now p → Told bytes.now b → ⊥ }
 {
     exact::<Language>();
     unambiguous();
     match lex(alloc, bytes) {
-        Ok(tokens) => behind_tokens(alloc, bytes, tokens.as_slice()),
-        Err(stop) => Err(stop),
+        Ok(tokens) => behind_tokens(alloc, bytes, &tokens),
+        Err(stop) => Err(ParseStop::from(stop)),
     }
 }

@@ -14,12 +14,12 @@ ghost use Rattle.hs_front.specs.Walk.{known, prim_walk, sum_walk, stmt_walk, stm
 use crate::scope::{Found, Scope};
 use crate::syntax;
 use crate::syntax::{File, Prim, Span, Sum};
-use crate::words::{front, spelling};
+use crate::words::spelling;
 use hs_base::memory::NoMemory;
 use hs_base::name::Name;
-use hs_base::place::{Broken, Stop};
+use hs_base::place::Broken;
 use hs_base::rule::Rule;
-use hs_lexer::place_behind;
+use hs_parser::ParseStop;
 use hs_tree::features::{On, Src};
 use hs_tree::law::absent_features_are_unused;
 use hs_tree::node::{Block, Exp, Rhs, Stmt};
@@ -74,17 +74,14 @@ impl<'t> Resolver<'t> {
     }
 
     /// That the name breaks the rule.
-    fn broken_at(&self, rule: Rule, name: Span) -> Stop
-        ensures { result ≡ Stop.Broken (told_at self.now.text.now (mark rule name)) }
+    fn broken_at(&self, rule: Rule, name: Span) -> ParseStop
+        ensures { result ≡ ParseStop.Broken (told_at self.now.text.now (mark rule name)) }
     {
-        Stop::Broken(Broken {
-            rule,
-            at: place_behind(front(self.text, name.start as usize)),
-        })
+        ParseStop::Broken(Broken::told_at(self.text, rule, name.start as usize))
     }
 
     /// The local of this name, which breaks the rule where there is none.
-    fn local(&self, scope: &Scope<'t>, rule: Rule, name: Span) -> Result<usize, Stop>
+    fn local(&self, scope: &Scope<'t>, rule: Rule, name: Span) -> Result<usize, ParseStop>
         ensures { Gives self.now.text.now (known (found (text_at self.now.text.now name) scope.now) (mark rule name)) (λ number. number) result }
     {
         match scope.find(self.text_of(name)) {
@@ -96,7 +93,7 @@ impl<'t> Resolver<'t> {
     /// The expression of a part of a sum.
     ///
     /// Broken (N3): the name is no local's.
-    fn prim(&self, scope: &Scope<'t>, prim: &Prim) -> Result<Exp<Src>, Stop>
+    fn prim(&self, scope: &Scope<'t>, prim: &Prim) -> Result<Exp<Src>, ParseStop>
         ensures { Gives self.now.text.now (prim_walk self.now.text.now scope.now prim.now) exp_of result }
     {
         match prim {
@@ -106,7 +103,7 @@ impl<'t> Resolver<'t> {
     }
 
     /// The expression of a sum.
-    fn sum(&self, scope: &Scope<'t>, sum: &Sum) -> Result<Exp<Src>, Stop>
+    fn sum(&self, scope: &Scope<'t>, sum: &Sum) -> Result<Exp<Src>, ParseStop>
         ensures { Gives self.now.text.now (sum_walk self.now.text.now scope.now sum.now) exp_of result }
     {
         let mut value = self.prim(scope, &sum.first)?;
@@ -120,7 +117,7 @@ impl<'t> Resolver<'t> {
     /// A statement, whose local is in scope behind it.
     ///
     /// Broken (N10): the assigned name is no local's.
-    fn statement(&self, scope: &mut Scope<'t>, stmt: &syntax::Stmt) -> Result<Stmt<Src>, Stop>
+    fn statement(&self, scope: &mut Scope<'t>, stmt: &syntax::Stmt) -> Result<Stmt<Src>, ParseStop>
         ensures { GivesIn self.now.text.now (stmt_walk self.now.text.now scope.old stmt.now) stmt_of result scope.new }
     {
         match stmt {
@@ -143,7 +140,7 @@ impl<'t> Resolver<'t> {
         &self,
         scope: &mut Scope<'t>,
         stmts: &[syntax::Stmt],
-    ) -> Result<Items<Stmt<Src>>, Stop>
+    ) -> Result<Items<Stmt<Src>>, ParseStop>
         ensures { GivesIn self.now.text.now (stmts_walk self.now.text.now scope.old stmts.now) (map stmt_of) result scope.new }
     {
         let mut statements = Items::new(self.alloc);
@@ -166,7 +163,7 @@ impl<'t> Resolver<'t> {
     }
 
     /// The block of a file.
-    fn block(&self, file: &File) -> Result<Block<Src>, Stop>
+    fn block(&self, file: &File) -> Result<Block<Src>, ParseStop>
         ensures { Gives self.now.text.now (block_walk self.now.text.now (with_params self.now.text.now file.now.parameters []) file.now.body.statements file.now.body.value) block_of result }
     {
         let mut scope = self.with_params(file.parameters.as_slice())?;
@@ -193,7 +190,7 @@ impl<'t> Resolver<'t> {
     /// That no parameter's name stands before.
     ///
     /// Broken (N6): a name does. The place is where it stands again.
-    fn once(&self, names: &[Span]) -> Result<(), Stop>
+    fn once(&self, names: &[Span]) -> Result<(), ParseStop>
         ensures { Gives self.now.text.now (param_walk self.now.text.now [] names.now) (λ u. u) result }
     {
         for number in 0..names.len() {
@@ -208,7 +205,7 @@ impl<'t> Resolver<'t> {
     /// That each local that is assigned may be.
     ///
     /// Broken (T11): a local is not `mut`.
-    fn assignments(&self, scope: &mut Scope<'t>, stmts: &[syntax::Stmt]) -> Result<(), Stop>
+    fn assignments(&self, scope: &mut Scope<'t>, stmts: &[syntax::Stmt]) -> Result<(), ParseStop>
         ensures { Gives self.now.text.now (type_walk self.now.text.now scope.old stmts.now) (λ u. u) result }
     {
         for stmt in stmts {
@@ -283,7 +280,7 @@ impl<'t> Resolver<'t> {
     ///
     /// Broken, first of the names: N6, a parameter's name stands before. N3, a name in a sum is no local's that is in
     /// scope. N10, an assigned name is none. Then of the types: T11, an assigned local is not `mut`. The place is the name's.
-    pub fn program(&self, file: &File) -> Result<Program<Src>, Stop>
+    pub fn program(&self, file: &File) -> Result<Program<Src>, ParseStop>
         ensures gives { Gives self.now.text.now (file_walk self.now.text.now file.now) program_of result }
         ensures absent { IfOk result (λ program. (f : Feature) → src f ≡ false → uses f (program_of program) ≡ 0) }
     {

@@ -2,9 +2,10 @@
 
 use crate::check::check;
 use crate::words::spelling;
-use hs_base::place::{Broken, Pos, Stop};
+use hs_base::place::{Broken, Pos};
 use hs_base::rule::Rule;
 use hs_lexer::{Token, lex};
+use hs_parser::ParseStop;
 use hs_tree::node::{Exp, Rhs, Stmt};
 use std::alloc::{AllocError, Global};
 use std::test::Fail;
@@ -13,7 +14,7 @@ use std::test::Fail;
 fn told(alloc: Global, text: &[u8]) -> Option<(Rule, u64, u64, u64)> {
     match check(alloc, text) {
         Err(
-            Stop::Broken(
+            ParseStop::Broken(
                 Broken {
                     rule,
                     at: Pos { byte, line, col },

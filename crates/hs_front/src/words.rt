@@ -7,32 +7,9 @@ ghost use Rattle.hs_words.specs.declared.kinds.IntTy as int_ty;
 ghost use Rattle.hs_front.specs.Words.{built_in, is_built_in, name_kind, reserved_kind, number_kind, mark_kind, kind_of};
 
 use crate::symbol::Kind;
+use hs_base::parts::{behind, front};
 use hs_lexer::TokenKind;
 use hs_words::IntTy;
-
-/// The bytes of the text behind so many of them.
-#[tactic(auto, using(std::proofs::lemmas::List::drop_all))]
-fn behind(text: &[u8], start: usize) -> &[u8]
-    ensures { result.now ≡ drop start text.now }
-{
-    if start < text.len() {
-        &text[start..]
-    } else {
-        &[]
-    }
-}
-
-/// So many of the text's first bytes, as far as there are any.
-#[tactic(auto, using(std::proofs::Common::take_all))]
-pub fn front(text: &[u8], length: usize) -> &[u8]
-    ensures { result.now ≡ take length text.now }
-{
-    if length < text.len() {
-        &text[..length]
-    } else {
-        text
-    }
-}
 
 /// The bytes of the text from one place up to another, as far as there are any.
 pub fn spelling(text: &[u8], start: u32, end: u32) -> &[u8]
