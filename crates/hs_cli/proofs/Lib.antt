@@ -1,12 +1,5 @@
-pub mod Ends
-pub mod Environment
-pub mod Keeps
-pub mod Meanings
-pub mod Once
+pub mod Asks
 pub mod Outputs
 pub mod Prefixes
-pub mod Printed
-pub mod Rows
-pub mod Whole
-pub mod Bindings
 pub mod Prints
+pub mod Whole

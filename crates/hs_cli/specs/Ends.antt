@@ -8,8 +8,9 @@ use Rattle.hs_base.specs.declared.place.Broken.{Broken}
 use Rattle.hs_base.specs.Told.{Entry, bytes_under}
 use Rattle.hs_cli.specs.declared.status.Status.{Status}
 use Rattle.hs_cli.specs.declared.status.Status.TheVariants.{Done, Refused, ReadFault, WriteFault, NoMemory}
-use Rattle.hs_cli.specs.Forms.{Print, refused_line}
-use Rattle.hs_cli.specs.Output.{Written, OutputFrom, Prints}
+use Rattle.hs_cli.specs.Command.{Print, Command, AsksPrint}
+use Rattle.hs_cli.specs.Lines.{refused_line}
+use Rattle.hs_cli.specs.Output.{Written, OutputFrom, Prints, Untold}
 
 -- the two sinks took a whole output with this status
 abbrev pub TookWhole : List (List ℕ) → Option (List Entry) → Status → Option (List ℕ) → Option (List ℕ) → Option (List ℕ) → Option (List ℕ) → Type 0
@@ -30,6 +31,8 @@ TookParts words told read_rose out_old out_new err_old err_new =
 pub record Answers (form : Print) (bytes : List ℕ) (status : Status) (out_old out_new err_old err_new : Option (List ℕ)) : Type 0 where
   -- Done exactly where the text is accepted
   pub done : (p : List tree.Function) → Accepted bytes p → status ≡ Done
+  -- and exactly where no rule is told of it
+  pub untold : Untold bytes → status ≡ Done
   -- Refused exactly where a rule is told of it, and the line on `err` tells that rule and its place
   pub refused : (b : Broken) → Told bytes b → (status ≡ Refused) × Appends err_old err_new (refused_line form.file b)
   -- with Refused a rule is told of the text
@@ -38,9 +41,9 @@ pub record Answers (form : Print) (bytes : List ℕ) (status : Status) (out_old 
   pub prints : status ≡ Done → (p : List tree.Function) × Accepted bytes p × (text : List ℕ) × Appends out_old out_new text × Prints form.module_name p text
 
 -- what holds for the words of a print whose file is told within its limit
-abbrev pub Headline : Option Print → Option (List Entry) → Status → Option (List ℕ) → Option (List ℕ) → Option (List ℕ) → Option (List ℕ) → Type 0
+abbrev pub Headline : Option Command → Option (List Entry) → Status → Option (List ℕ) → Option (List ℕ) → Option (List ℕ) → Option (List ℕ) → Type 0
 Headline None told status out_old out_new err_old err_new = ⊤
-Headline (Some form) None status out_old out_new err_old err_new = ⊤
-Headline (Some form) (Some files) status out_old out_new err_old err_new =
+Headline (Some command) None status out_old out_new err_old err_new = ⊤
+Headline (Some (AsksPrint form)) (Some files) status out_old out_new err_old err_new =
     (bytes : List ℕ) → bytes_under form.file files ≡ Some bytes → length bytes ≤ 262144 → status ≢ ReadFault → status ≢ WriteFault → status ≢ NoMemory
     → Answers form bytes status out_old out_new err_old err_new

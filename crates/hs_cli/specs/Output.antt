@@ -4,15 +4,18 @@ use Rattle.hs_tree.specs.Plain as tree
 use Rattle.hs_front.specs.Told.{Accepted, Told}
 use Rattle.hs_base.specs.Told.{Entry, bytes_under}
 use Rattle.hs_base.specs.declared.place.Broken.{Broken}
+use Rattle.hs_parser.specs.declared.stop.ParseStop.{ParseStop}
+use Rattle.hs_parser.specs.declared.stop.ParseStop.TheVariants as stop
 use Rattle.hs_cli.specs.declared.status.Status.{Status}
 use Rattle.hs_cli.specs.declared.status.Status.TheVariants.{Done, Refused, Usage, NotThere, ReadFault, TooLarge}
-use Rattle.hs_cli.specs.Module.{Module}
-use Rattle.hs_cli.specs.Spelled.{Spelled}
-use Rattle.hs_cli.specs.Scoped.{Scoped}
-use Rattle.hs_cli.specs.Reads.{Reads}
-use Rattle.hs_cli.specs.Layout.{layout}
-use Rattle.hs_cli.specs.Same.{Same, Shape}
-use Rattle.hs_cli.specs.Forms.{Print, form_of, usage_line, not_there_line, too_large_line, read_failed_line, refused_line}
+use Rattle.hs_em.specs.Plain.{Module}
+use Rattle.hs_em.specs.Spelled.{Spelled}
+use Rattle.hs_em.specs.Scoped.{Scoped}
+use Rattle.hs_fstar.specs.Reads.{Reads}
+use Rattle.hs_fstar.specs.Layout.{layout}
+use Rattle.hs_pipeline.specs.Same.{Same, Shape}
+use Rattle.hs_cli.specs.Command.{Print, Command, AsksPrint, command_of}
+use Rattle.hs_cli.specs.Lines.{usage_line, not_there_line, too_large_line, read_failed_line, refused_line}
 
 -- a status, and what is on the two sinks
 pub record Written : Type 0 where
@@ -64,14 +67,18 @@ abbrev pub Fetched : Print → Option (List ℕ) → Written → Type 0
 Fetched form None written = written ≡ says NotThere [] (not_there_line form.file)
 Fetched form (Some bytes) written = Read form bytes written
 
--- this may be written: what the words and the files ask for, or that the read failed
-abbrev pub OutputOf : Option Print → List Entry → Written → Type 0
-OutputOf None files written = written ≡ says Usage [] usage_line
-OutputOf (Some form) files written =
+-- what is written for a print: the module, or what stands in its way; or that the read failed
+abbrev pub Printed : Print → List Entry → Written → Type 0
+Printed form files written =
     Fetched form (bytes_under form.file files) written ⊎ (written ≡ says ReadFault [] (read_failed_line form.file))
 
+-- this may be written: what the command and the files ask for, or the line that tells the forms
+abbrev pub OutputOf : Option Command → List Entry → Written → Type 0
+OutputOf None files written = written ≡ says Usage [] usage_line
+OutputOf (Some (AsksPrint form)) files written = Printed form files written
+
 abbrev pub Output : List (List ℕ) → List Entry → Written → Type 0
-Output words files written = OutputOf (form_of words) files written
+Output words files written = OutputOf (command_of words) files written
 
 -- these may be the files
 abbrev pub MayBe : Option (List Entry) → List Entry → Type 0
@@ -81,3 +88,13 @@ MayBe (Some told) files = files ≡ told
 -- this may be written for what the files tell
 abbrev pub OutputFrom : List (List ℕ) → Option (List Entry) → Written → Type 0
 OutputFrom words told written = (files : List Entry) × MayBe told files × Output words files written
+
+-- this may be written for what the command asks of these files
+abbrev pub OutputAt : Command → Option (List Entry) → Written → Type 0
+OutputAt command told written = (files : List Entry) × MayBe told files × OutputOf (Some command) files written
+
+-- the line of what stopped a check; want of memory has none
+abbrev pub StoppedBy : ParseStop → List ℕ → Written → Type 0
+StoppedBy (stop.Broken broken) file written = written ≡ says Refused [] (refused_line file broken)
+StoppedBy stop.TooDeep file written = ⊥
+StoppedBy stop.NoMemory file written = ⊥

@@ -1,21 +1,31 @@
 //! What is to be written, made before writing begins.
 
-ghost use Rattle.std.specs.Prelude.{◌≡◌, ℕ, ◌≤◌, List, [], map, string_bytes, length, true, IfOk};
+ghost use Rattle.std.specs.Prelude.{◌≡◌, ℕ, ◌≤◌, List, [], map, string_bytes, length, true, IfOk, IsNone};
 ghost use Rattle.hs_base.specs.Causes.{Rose};
-ghost use Rattle.hs_cli.specs.Forms.{Print, form_of, usage_line, not_there_line, too_large_line, read_failed_line, refused_line};
-ghost use Rattle.hs_cli.specs.Spelled.{is_module_name};
-ghost use Rattle.hs_cli.specs.Output.{OutputFrom, CarriedOut, says};
+ghost use Rattle.hs_tree.specs.Of.{program_of};
+ghost use Rattle.hs_tree.specs.Features.{src};
+ghost use Rattle.hs_tree.specs.Sound.{Sound};
+ghost use Rattle.hs_em.specs.Of.{module_of};
+ghost use Rattle.hs_em.specs.Spelled.{is_module_name};
+ghost use Rattle.hs_fstar.specs.Layout.{layout};
+ghost use Rattle.hs_cli.specs.Command.{AsksPrint, Named, command_of};
+ghost use Rattle.hs_cli.specs.Asked.{asked_by};
+ghost use Rattle.hs_cli.specs.Lines.{usage_line, not_there_line, too_large_line, read_failed_line, refused_line};
+ghost use Rattle.hs_cli.specs.Output.{Prints, OutputAt, OutputFrom, CarriedOut, StoppedBy, says};
 ghost use Rattle.hs_cli.specs.Written.{written_of};
 
-use crate::copy::without_exits;
-use crate::module::{locals_are_numbered, module_text};
+use crate::command::{Command, Dialect, read_command};
 use crate::status::Status;
-use crate::words::read_words;
 use hs_base::outside::{FetchFault, Files};
-use hs_base::place::{Broken, Stop};
+use hs_base::place::Broken;
+use hs_em::module::Module;
 use hs_front::check::check;
-use hs_p_mutation::drop_assigns;
-use hs_tree::law::{absent_features_are_unused, calls_are_computed};
+use hs_fstar::law::{layouts_are_read, texts_are_read_once};
+use hs_fstar::print::print;
+use hs_parser::ParseStop;
+use hs_pipeline::emit;
+use hs_tree::features::Src;
+use hs_tree::program::Program;
 use std::alloc::{AllocError, Global};
 
 /// The greatest length of a source, in bytes.
@@ -82,32 +92,101 @@ fn refused(alloc: Global, file: &str, broken: Broken) -> Result<Answer, AllocErr
     Ok(tell(alloc, Status::Refused, line))
 }
 
-// The module of the source's program, or the rule that it breaks.
-fn carry_out(
+// The line of what stopped the check.
+fn stopped(alloc: Global, file: &str, stop: ParseStop) -> Result<Answer, AllocError>
+    ensures { IfOk result (λ answer. StoppedBy stop file.now (written_of answer)) }
+{
+    match stop {
+        ParseStop::Broken(broken) => refused(alloc, file, broken),
+        ParseStop::TooDeep | ParseStop::NoMemory => Err(AllocError),
+    }
+}
+
+// The text of a module, in a dialect.
+fn text_of(alloc: Global, dialect: Dialect, made: &Module) -> Result<Vec<u8>, AllocError>
+    ensures { IfOk result (λ text. text.items ≡ layout (module_of made.now)) }
+{
+    match dialect {
+        Dialect::FStar => print(alloc, made),
+    }
+}
+
+// The module of a program, as text.
+fn print_program(
     alloc: Global,
+    dialect: Dialect,
+    module_name: &str,
+    program: &Program<Src>,
+) -> Result<Answer, AllocError>
+    requires named { is_module_name module_name.now ≡ true }
+    requires sound { Sound src (program_of program.now) }
+    ensures { IfOk result (λ answer. (answer.status ≡ Status.Done) × Prints module_name.now (program_of program.now) answer.out.items × (answer.err.items ≡ [])) }
+{
+    let made = emit(alloc, program, module_name)?;
+    layouts_are_read();
+    texts_are_read_once();
+    let out = text_of(alloc, dialect, &made)?;
+    Ok(Answer {
+        status: Status::Done,
+        out,
+        err: Vec::new(alloc),
+    })
+}
+
+// The module of the source's program, or the rule that it breaks.
+fn print_source(
+    alloc: Global,
+    dialect: Dialect,
     module_name: &str,
     file: &str,
     source: &[u8],
 ) -> Result<Answer, AllocError>
     requires { is_module_name module_name.now ≡ true }
-    ensures { IfOk result (λ answer. CarriedOut (record { module_name = module_name.now; file = file.now }) source.now (written_of answer)) }
+    ensures { IfOk result (λ answer. CarriedOut (record { dialect = dialect; module_name = module_name.now; file = file.now }) source.now (written_of answer)) }
 {
     match check(alloc, source) {
-        Ok(program) => {
-            let flat = without_exits(alloc, &program)?;
-            absent_features_are_unused(&flat);
-            let bound = drop_assigns(alloc, flat)?;
-            calls_are_computed();
-            locals_are_numbered(&bound);
-            let out = module_text(alloc, module_name, &bound)?;
-            Ok(Answer {
-                status: Status::Done,
-                out,
-                err: Vec::new(alloc),
-            })
-        }
-        Err(Stop::Broken(broken)) => refused(alloc, file, broken),
-        Err(Stop::NoMemory) => Err(AllocError),
+        Ok(program) => print_program(alloc, dialect, module_name, &program),
+        Err(stop) => stopped(alloc, file, stop),
+    }
+}
+
+// The module of the file's program, or what stands in its way.
+fn print_file<F: Files>(
+    alloc: Global,
+    dialect: Dialect,
+    module_name: &str,
+    file: &str,
+    files: &mut F,
+) -> Result<Answer, AllocError>
+    requires { is_module_name module_name.now ≡ true }
+    ensures output { IfOk result (λ answer. OutputAt (AsksPrint (record { dialect = dialect; module_name = module_name.now; file = file.now })) (F.told files.old) (written_of answer)) }
+    ensures read { IfOk result (λ answer. answer.status ≡ Status.ReadFault → Rose (F.faults files.old) (F.faults files.new)) }
+    ensures later { F.faults files.old ≤ F.faults files.new }
+    ensures same { F.told files.new ≡ F.told files.old }
+{
+    match files.fetch(file, SOURCE_BYTES) {
+        Ok(source) => print_source(alloc, dialect, module_name, file, &source),
+        Err(FetchFault::NotThere) => not_there(alloc, file),
+        Err(FetchFault::TooLarge) => too_large(alloc, file),
+        Err(FetchFault::Failed) => read_failed(alloc, file),
+        Err(FetchFault::NoMemory) => Err(AllocError),
+    }
+}
+
+// What the command asks for.
+fn carry_out<F: Files>(alloc: Global, command: Command, files: &mut F) -> Result<Answer, AllocError>
+    requires { Named (asked_by command) }
+    ensures output { IfOk result (λ answer. OutputAt (asked_by command.entry) (F.told files.old) (written_of answer)) }
+    ensures read { IfOk result (λ answer. answer.status ≡ Status.ReadFault → Rose (F.faults files.old) (F.faults files.new)) }
+    ensures later { F.faults files.old ≤ F.faults files.new }
+    ensures same { F.told files.new ≡ F.told files.old }
+{
+    match command {
+        Command::Print {
+            dialect,
+            module_name,
+            file,
+        } => print_file(alloc, dialect, module_name, file, files),
     }
 }
 
@@ -121,15 +200,10 @@ pub(crate) fn make_answer<F: Files>(
     ensures read { IfOk result (λ answer. answer.status ≡ Status.ReadFault → Rose (F.faults files.old) (F.faults files.new)) }
     ensures later { F.faults files.old ≤ F.faults files.new }
     ensures same { F.told files.new ≡ F.told files.old }
+    ensures unasked { IsNone (command_of (map string_bytes words.now)) → files.new ≡ files.old }
 {
-    let Some(request) = read_words(words) else {
-        return usage(alloc);
-    };
-    match files.fetch(request.file, SOURCE_BYTES) {
-        Ok(source) => carry_out(alloc, request.module_name, request.file, &source),
-        Err(FetchFault::NotThere) => not_there(alloc, request.file),
-        Err(FetchFault::TooLarge) => too_large(alloc, request.file),
-        Err(FetchFault::Failed) => read_failed(alloc, request.file),
-        Err(FetchFault::NoMemory) => Err(AllocError),
+    match read_command(words) {
+        None => usage(alloc),
+        Some(command) => carry_out(alloc, command, files),
     }
 }

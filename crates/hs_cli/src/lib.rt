@@ -2,11 +2,10 @@
 #![tactic(auto)]
 
 mod answer;
-mod copy;
-mod module;
+mod command;
 mod status;
 mod top;
-mod words;
 
+pub use command::Dialect;
 pub use status::Status;
 pub use top::run;

@@ -2,7 +2,7 @@
 
 ghost use Rattle.std.specs.Prelude.{◌≡◌, ◌≢◌, ◌⊎◌, ◌↔◌, ℕ, ◌≤◌, List, map, string_bytes, length, IsNone};
 ghost use Rattle.hs_base.specs.Causes.{Rose};
-ghost use Rattle.hs_cli.specs.Forms.{form_of};
+ghost use Rattle.hs_cli.specs.Command.{command_of};
 ghost use Rattle.hs_cli.specs.Output.{Written, OutputFrom};
 ghost use Rattle.hs_cli.specs.Ends.{TookWhole, TookNothing, TookParts, Headline};
 
@@ -15,14 +15,14 @@ use std::alloc::Global;
 /// Carries out what the words ask, and puts the result on the two sinks: the text on `out`, the line of
 /// a refusal on `err`. The words are those of the command line, without the program's name.
 ///
-/// `Usage` comes exactly where the words match no form. Then the file is fetched: `NotThere` comes
+/// `Usage` comes exactly where the words match no form; no file is fetched then. Else the file is: `NotThere` comes
 /// exactly where the files lack it, and `TooLarge` exactly where it has more than 262,144 bytes.
 /// `Refused` comes exactly where the source breaks a rule, and `Done` exactly where it breaks none. All
 /// this but for `ReadFault`, which comes only where the count of faults of `files` rose in this call,
 /// `WriteFault`, which comes only where that of `out` or `err` rose, and `NoMemory`.
 ///
-/// After `WriteFault` and `NoMemory` the sinks took nothing, or a prefix each of one output; nothing is
-/// put on the other sink after a failed write.
+/// After `WriteFault` the sinks took nothing, or a prefix each of one output; nothing is put on the other
+/// sink after a failed write. After `NoMemory` they took nothing.
 pub fn run<F: Files, O: Sink, E: Sink>(
     alloc: Global,
     words: &Vec<String>,
@@ -35,7 +35,7 @@ pub fn run<F: Files, O: Sink, E: Sink>(
         → O.accepts out.old (length written.out) × E.accepts err.old (length written.err) }
 
     // Where the words are those of a print, and the file is told within its limit.
-    ensures headline { Headline (form_of (map string_bytes words.now.items)) (F.told files.old) result
+    ensures headline { Headline (command_of (map string_bytes words.now.items)) (F.told files.old) result
         (O.taken out.old) (O.taken out.new) (E.taken err.old) (E.taken err.new) }
 
     // With a status of its own the call leaves one whole output on the sinks.
@@ -43,15 +43,22 @@ pub fn run<F: Files, O: Sink, E: Sink>(
         → TookWhole (map string_bytes words.now.items) (F.told files.old) result
         (O.taken out.old) (O.taken out.new) (E.taken err.old) (E.taken err.new) }
 
-    // Else the sinks took nothing, or a prefix each of one output.
-    ensures part { (result ≡ Status.WriteFault) ⊎ (result ≡ Status.NoMemory)
+    // After a failed write the sinks took nothing, or a prefix each of one output.
+    ensures part { result ≡ Status.WriteFault
         → TookNothing (O.taken out.old) (O.taken out.new) (E.taken err.old) (E.taken err.new)
         ⊎ TookParts (map string_bytes words.now.items) (F.told files.old) (Rose (F.faults files.old) (F.faults files.new))
         (O.taken out.old) (O.taken out.new) (E.taken err.old) (E.taken err.new) }
 
-    ensures usage { result ≡ Status.Usage → IsNone (form_of (map string_bytes words.now.items)) }
-    ensures usage_first { IsNone (form_of (map string_bytes words.now.items))
+    // Without memory they took nothing.
+    ensures no_memory { result ≡ Status.NoMemory
+        → TookNothing (O.taken out.old) (O.taken out.new) (E.taken err.old) (E.taken err.new) }
+
+    ensures usage { result ≡ Status.Usage → IsNone (command_of (map string_bytes words.now.items)) }
+    ensures usage_first { IsNone (command_of (map string_bytes words.now.items))
         → (result ≡ Status.Usage) ⊎ (result ≡ Status.WriteFault) ⊎ (result ≡ Status.NoMemory) }
+
+    // Then no file is fetched.
+    ensures unasked { IsNone (command_of (map string_bytes words.now.items)) → files.new ≡ files.old }
 
     ensures read_fault { result ≡ Status.ReadFault → Rose (F.faults files.old) (F.faults files.new) }
     ensures write_fault { result ≡ Status.WriteFault

@@ -5,7 +5,8 @@ use Rattle.hs_front.specs.Told.{Accepted, Told}
 use Rattle.hs_base.specs.Heaps.{SureHeapState}
 use Rattle.hs_base.specs.Told.{Entry, bytes_under}
 use Rattle.hs_base.specs.declared.place.Broken.{Broken}
-use Rattle.hs_cli.specs.Forms.{Print, form_of, too_large_line, read_failed_line, refused_line}
+use Rattle.hs_cli.specs.Command.{Print, AsksPrint, command_of}
+use Rattle.hs_cli.specs.Lines.{not_there_line, too_large_line, read_failed_line, refused_line}
 use Rattle.hs_cli.specs.Output.{Written, CarriedOut, Fetched, OutputOf, OutputFrom}
 
 -- the output fits into this much room
@@ -43,19 +44,38 @@ found_fits form (Some other) bytes broken room written e told apart only short l
 refusal_at : (form : Print) (files : List Entry) (bytes : List ℕ) (broken : Broken) (room : ℕ) (written : Written) → bytes_under form.file files ≡ Some bytes
     → Told bytes broken → ((p : List tree.Function) (b : Broken) → Accepted bytes p → Told bytes b → ⊥) → ((b : Broken) → Told bytes b → broken ≡ b)
     → length (refused_line form.file broken) ≤ room → length (too_large_line form.file) ≤ room → length (read_failed_line form.file) ≤ room
-    → OutputOf (Some form) files written → Fits 0 room written
+    → OutputOf (Some (AsksPrint form)) files written → Fits 0 room written
 refusal_at form files bytes broken room written found told apart only short large failed (inl w) =
     found_fits form (bytes_under form.file files) bytes broken room written found told apart only short large w
 refusal_at form files bytes broken room written found told apart only short large failed (inr w) =
     line_fits written (read_failed_line form.file) room (out_of _ _ w) (err_of _ _ w) failed
 
 pub refusal_fits : (words : List (List ℕ)) (files : List Entry) (form : Print) (bytes : List ℕ) (broken : Broken) (room : ℕ) (written : Written)
-    → form_of words ≡ Some form → bytes_under form.file files ≡ Some bytes
+    → command_of words ≡ Some (AsksPrint form) → bytes_under form.file files ≡ Some bytes
     → Told bytes broken → ((p : List tree.Function) (b : Broken) → Accepted bytes p → Told bytes b → ⊥) → ((b : Broken) → Told bytes b → broken ≡ b)
     → length (refused_line form.file broken) ≤ room → length (too_large_line form.file) ≤ room → length (read_failed_line form.file) ≤ room
     → OutputFrom words (Some files) written → Fits 0 room written
 refusal_fits words files form bytes broken room written asked found told apart only short large failed (held, same, output) =
     refusal_at form held bytes broken room written (ap (bytes_under form.file) same ∙ found) told apart only short large failed (subst (λ f. OutputOf f held written) asked output)
+
+absent_at : (form : Print) (files : List Entry) (room : ℕ) (written : Written) → (found : Option (List ℕ)) → found ≡ None → length (not_there_line form.file) ≤ room
+    → Fetched form found written → Fits 0 room written
+absent_at form files room written None e short w = line_fits written (not_there_line form.file) room (out_of _ _ w) (err_of _ _ w) short
+absent_at form files room written (Some bytes) e short w = absurd (cc e)
+
+absent_or_failed : (form : Print) (files : List Entry) (room : ℕ) (written : Written) → bytes_under form.file files ≡ None
+    → length (not_there_line form.file) ≤ room → length (read_failed_line form.file) ≤ room
+    → OutputOf (Some (AsksPrint form)) files written → Fits 0 room written
+absent_or_failed form files room written none short failed (inl w) = absent_at form files room written (bytes_under form.file files) none short w
+absent_or_failed form files room written none short failed (inr w) =
+    line_fits written (read_failed_line form.file) room (out_of _ _ w) (err_of _ _ w) failed
+
+pub absence_fits : (words : List (List ℕ)) (files : List Entry) (form : Print) (room : ℕ) (written : Written)
+    → command_of words ≡ Some (AsksPrint form) → bytes_under form.file files ≡ None
+    → length (not_there_line form.file) ≤ room → length (read_failed_line form.file) ≤ room
+    → OutputFrom words (Some files) written → Fits 0 room written
+absence_fits words files form room written asked none short failed (held, same, output) =
+    absent_or_failed form held room written (ap (bytes_under form.file) same ∙ none) short failed (subst (λ f. OutputOf f held written) asked output)
 
 -- what fits into a room fits into an empty sink that has it
 pub into_empty : (heap : SureHeapState) (room count : ℕ) → heap ≡ record { bytes = []; room = room } → count ≤ room → length heap.bytes + count ≤ heap.room

@@ -1,14 +1,15 @@
 //! Files and sinks that never fail, with room for no more than the call can write.
 
 ghost use Rattle.std.specs.Prelude.{◌≡◌, List, [], ◌∷◌, map, string_bytes, codes, IfOk};
-ghost use Rattle.hs_cli.specs.Forms.{refused_line};
+ghost use Rattle.hs_cli.specs.Lines.{refused_line};
 
 use crate::calls::{Left, MINUS, MINUS_LINE, USAGE, is_refused};
 use hs_base::heap::SureHeap;
-use hs_base::place::{Broken, Stop};
+use hs_base::place::Broken;
 use hs_base::shelf::SureShelf;
 use hs_cli::{Status, run};
 use hs_front::check::check;
+use hs_parser::ParseStop;
 use std::alloc::{AllocError, Global};
 use std::test::Fail;
 
@@ -88,7 +89,7 @@ fn line_of(alloc: Global, file: &str, broken: Broken) -> Result<String, AllocErr
 
 // The source is refused by the check with the line of 46 bytes, and no other line that may be written is longer.
 fn call_on_minus(alloc: Global) -> Result<Left, Fail> {
-    let Err(Stop::Broken(broken)) = check(alloc, MINUS) else {
+    let Err(ParseStop::Broken(broken)) = check(alloc, MINUS) else {
         return Err(Fail::from("not refused"));
     };
     let line = line_of(alloc, "add.rs", broken)?;

@@ -4,7 +4,7 @@ use Rattle.hs_base.specs.Causes.{TookPrefix}
 use Rattle.hs_cli.specs.Output.{OutputFrom}
 use Rattle.hs_cli.specs.Written.{written_of}
 use Rattle.hs_cli.proofs.Prefixes.{took_none, took_all, at_err, at_ok}
-use Rattle.hs_cli.proofs.Whole.{headline_from, usage_from}
+use Rattle.hs_cli.proofs.Whole.{headline_from, usage_from, ends_from}
 use Rattle.hs_cli.proofs.top.run.Goals as goal
 
 pub put_all-requires : goal.put_all-requires
@@ -61,15 +61,13 @@ pub returns-clause-part : goal.returns-clause-part
 returns-clause-part g c =
     let answer = c.in-Ok.answer in
     let output = subst (λ words. OutputFrom (map string_bytes words) (g.F.Files.told c.args.files.now) (written_of answer)) c.deref.ensures.value c.in-Ok.ensures.output in
-    let whole = at_ok c.put_all.result _ (sym c.is_err.ensures.value ∙ c.if-is_err.false) c.put_all.ensures.ok in
-    let whole_err = at_ok c.put_all-2.result _ (sym c.is_err-2.ensures.value ∙ c.if-is_err-2.false) c.put_all-2.ensures.ok in
-    λ _. inr (
-      written_of answer,
-      output,
-      c.in-Ok.ensures.read,
-      took_all (g.O.Sink.taken c.args.out.now) (g.O.Sink.taken c.put_all.new.sink) answer.out.items (subst (Appends (g.O.Sink.taken c.args.out.now) (g.O.Sink.taken c.put_all.new.sink)) c.deref-2.ensures.value whole),
-      took_all (g.E.Sink.taken c.args.err.now) (g.E.Sink.taken c.put_all-2.new.sink) answer.err.items (subst (Appends (g.E.Sink.taken c.args.err.now) (g.E.Sink.taken c.put_all-2.new.sink)) c.deref-3.ensures.value whole_err),
-    )
+    λ fault. absurd ((ends_from (map string_bytes c.args.words.now.items) (g.F.Files.told c.args.files.now) (written_of answer) output).0 fault)
+
+pub returns-clause-no_memory : goal.returns-clause-no_memory
+returns-clause-no_memory g c =
+    let answer = c.in-Ok.answer in
+    let output = subst (λ words. OutputFrom (map string_bytes words) (g.F.Files.told c.args.files.now) (written_of answer)) c.deref.ensures.value c.in-Ok.ensures.output in
+    λ none. absurd ((ends_from (map string_bytes c.args.words.now.items) (g.F.Files.told c.args.files.now) (written_of answer) output).1 none)
 
 pub returns-clause-usage_first : goal.returns-clause-usage_first
 returns-clause-usage_first g c =
