@@ -3,7 +3,7 @@ use Rattle.std.proofs.Common.{arith, ◌≡◌, ℕ, ◌+◌, ◌<◌, List, [],
 use Rattle.std.proofs.lemmas.Bool.{false_from_ne_true}
 use Rattle.std.proofs.lemmas.List.{drop_more}
 use Rattle.std.proofs.lemmas.Slice.Eq.{bytes_eq-Decides}
-use Rattle.hs_base.specs.Told.{StandsAt, bytes_under}
+use Rattle.hs_base.specs.Contents.{StandsAt, bytes_under}
 use Rattle.hs_base.specs.Shelves.{entries_of}
 use Rattle.hs_base.specs.declared.shelf.Held.{Held}
 

@@ -7,4 +7,4 @@ pub mod Reads
 pub mod Rules
 pub mod ShelfState
 pub mod Shelves
-pub mod Told
+pub mod Contents

@@ -1,6 +1,6 @@
 -- Files in memory.
 use Rattle.std.specs.Prelude.{List, [], ◌∷◌, string_bytes}
-use Rattle.hs_base.specs.Told.{Entry}
+use Rattle.hs_base.specs.Contents.{Entry}
 use Rattle.hs_base.specs.declared.shelf.Held.{Held}
 
 -- the names and the bytes of what is held

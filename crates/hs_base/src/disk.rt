@@ -7,7 +7,7 @@ ghost use Rattle.std.specs.declared.io.Error.{Error};
 ghost use Rattle.hs_base.specs.Causes.{Rose, next_of};
 ghost use Rattle.hs_base.specs.Faults.{told_of};
 ghost use Rattle.hs_base.specs.Reads.{IsTold, IsAll, HasMore, ReadPast};
-ghost use Rattle.hs_base.specs.Told.{Holds, Lacks, Exceeds, untold};
+ghost use Rattle.hs_base.specs.Contents.{Holds, Lacks, Exceeds, untold};
 
 use crate::outside::{FetchFault, Files};
 use crate::repeats::Repeats;

@@ -5,7 +5,7 @@ ghost use Rattle.std.specs.declared.option.Option.{Option};
 ghost use Rattle.std.specs.Io.{WritesAtMost};
 ghost use Rattle.std.specs.Io.KnownBytes.{WriteAppends};
 ghost use Rattle.hs_base.specs.Causes.{Rose, HasCause};
-ghost use Rattle.hs_base.specs.Told.{Entry, Holds, Lacks, Exceeds};
+ghost use Rattle.hs_base.specs.Contents.{Entry, Holds, Lacks, Exceeds};
 
 use std::alloc::AllocError;
 

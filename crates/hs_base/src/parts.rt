@@ -1,6 +1,6 @@
-//! The two parts of a list that a place in it makes.
+//! The parts of a list that places in it make.
 
-ghost use Rattle.std.specs.Prelude.{◌≡◌, take, drop};
+ghost use Rattle.std.specs.Prelude.{◌≡◌, ◌-◌, take, drop};
 
 /// So many of the first of these, or all where there are no more. Takes no memory.
 #[tactic(auto, using(std::proofs::Common::take_all))]
@@ -24,4 +24,14 @@ pub fn behind<T>(all: &[T], length: usize) -> &[T]
     } else {
         &[]
     }
+}
+
+/// What stands from one place up to another, as far as there is any. Takes no memory.
+pub fn between<T>(all: &[T], start: u32, end: u32) -> &[T]
+    ensures { result.now ≡ take (end - start) (drop start all.now) }
+{
+    front(
+        behind(all, start as usize),
+        end.saturating_sub(start) as usize,
+    )
 }

@@ -2,7 +2,7 @@
 
 ghost use Rattle.std.specs.Prelude.{◌≡◌, ◌↔◌, ◌⊎◌, ℕ, ◌<◌, ◌≤◌, List, [], ◌∷◌, length, IfOk, OnOk, OnErr, IsErrOf, Contains, Some, IfSome, IsNone};
 ghost use Rattle.hs_base.specs.Causes.{Rose, next_of};
-ghost use Rattle.hs_base.specs.Told.{Holds, Lacks, Exceeds, Added, StandsAt, bytes_under};
+ghost use Rattle.hs_base.specs.Contents.{Holds, Lacks, Exceeds, Added, StandsAt, bytes_under};
 ghost use Rattle.hs_base.specs.Shelves.{entries_of};
 
 use crate::memory::NoMemory;
@@ -73,7 +73,7 @@ pub struct SureShelf {
 
 impl Model for SureShelf {
     ghost use Rattle.std.specs.Prelude.{List};
-    ghost use Rattle.hs_base.specs.Told.{Entry};
+    ghost use Rattle.hs_base.specs.Contents.{Entry};
     ghost use Rattle.hs_base.specs.Shelves.{entries_of};
 
     ghost Value = { List Entry };

@@ -8,7 +8,7 @@ use Rattle.hs_parser.specs.declared.stop.ParseStop.{ParseStop}
 use Rattle.hs_parser.specs.declared.stop.ParseStop.TheVariants as stops
 use Rattle.hs_front.specs.Told.{Accepted, Told}
 use Rattle.hs_front.specs.Answers.{OnBreak, OnlyBreak}
-use Rattle.hs_base.specs.Told.{Entry, bytes_under, Holds, Lacks, Exceeds}
+use Rattle.hs_base.specs.Contents.{Entry, bytes_under, Holds, Lacks, Exceeds}
 use Rattle.hs_cli.specs.declared.status.Status.TheVariants.{Usage, NotThere, TooLarge, ReadFault}
 use Rattle.hs_cli.specs.Command.{Print, Command, AsksPrint, command_of}
 use Rattle.hs_cli.specs.Lines.{usage_line, not_there_line, too_large_line, read_failed_line}

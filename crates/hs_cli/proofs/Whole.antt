@@ -1,7 +1,7 @@
 -- What a whole output says of the call that left it.
 use Rattle.std.proofs.Common.{arith, ◌≡◌, ◌≢◌, inl, inr, ℕ, ◌<◌, ◌≤◌, List, length, Option, Some, None, IsNone, sym, ap, ◌∙◌, subst}
 use Rattle.std.specs.Io.KnownBytes.{Appends}
-use Rattle.hs_base.specs.Told.{Entry, bytes_under}
+use Rattle.hs_base.specs.Contents.{Entry, bytes_under}
 use Rattle.hs_cli.specs.declared.status.Status.{Status}
 use Rattle.hs_cli.specs.declared.status.Status.TheVariants.{Refused, Usage, WriteFault, NoMemory}
 use Rattle.hs_cli.specs.Command.{Print, Command, AsksPrint, command_of}

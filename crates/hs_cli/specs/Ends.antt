@@ -5,7 +5,7 @@ use Rattle.hs_tree.specs.Plain as tree
 use Rattle.hs_front.specs.Told.{Accepted, Told}
 use Rattle.hs_base.specs.Causes.{TookPrefix}
 use Rattle.hs_base.specs.declared.place.Broken.{Broken}
-use Rattle.hs_base.specs.Told.{Entry, bytes_under}
+use Rattle.hs_base.specs.Contents.{Entry, bytes_under}
 use Rattle.hs_cli.specs.declared.status.Status.{Status}
 use Rattle.hs_cli.specs.declared.status.Status.TheVariants.{Done, Refused, ReadFault, WriteFault, NoMemory}
 use Rattle.hs_cli.specs.Command.{Print, Command, AsksPrint}

@@ -2,7 +2,7 @@
 use Rattle.std.specs.Prelude.{◌≡◌, ◌⊎◌, ℕ, ◌<◌, ◌≤◌, List, [], length, ⊤, Option, Some, None}
 use Rattle.hs_tree.specs.Plain as tree
 use Rattle.hs_front.specs.Told.{Accepted, Told}
-use Rattle.hs_base.specs.Told.{Entry, bytes_under}
+use Rattle.hs_base.specs.Contents.{Entry, bytes_under}
 use Rattle.hs_base.specs.declared.place.Broken.{Broken}
 use Rattle.hs_parser.specs.declared.stop.ParseStop.{ParseStop}
 use Rattle.hs_parser.specs.declared.stop.ParseStop.TheVariants as stop

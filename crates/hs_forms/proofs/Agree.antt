@@ -5,7 +5,7 @@ use Rattle.hs_grammar.specs.Derives.{Derivings, Beginnings, DerivesBy, BegunBy}
 use Rattle.hs_grammar.specs.Same.{Same, Sane, SameGrammars}
 use Rattle.hs_grammar.proofs.Same.{same, sane_by}
 use Rattle.hs_forms.specs.Lexis.{lexis}
-use Rattle.hs_forms.specs.Grammar.{Rule, RFile, RType, RMaybe, RPat, RExp, RUnary, RBlock, RIf, ROpen, RPlace, RPlaced, rules, if_form, open_form, place_form, placed_form, grammar}
+use Rattle.hs_forms.specs.Reading.{Rule, RFile, RType, RMaybe, RPat, RExp, RUnary, RBlock, RIf, ROpen, RPlace, RPlaced, rules, if_form, open_form, place_form, placed_form, grammar}
 use Rattle.hs_forms.specs.Written.{written}
 use Rattle.hs_forms.proofs.Types.{Maybes, maybes_zero, maybes_deeper, type_same, maybe_same, path_same}
 use Rattle.hs_forms.proofs.Patterns.{pat_same}

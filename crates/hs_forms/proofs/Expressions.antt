@@ -3,7 +3,7 @@ use Rattle.std.proofs.Common.{Bool, List, [], ◌∷◌, ◌++◌, Option, None,
 use Rattle.hs_grammar.specs.Form.{Pure, Map, Seq, Alt, Unless}
 use Rattle.hs_grammar.specs.Derives.{Derivings, Beginnings}
 use Rattle.hs_grammar.specs.Same.{Same, Sane}
-use Rattle.hs_grammar.specs.Words.{word, ◌>>◌, ◌<<◌, ◌&◌, optional, star, plus, list_read}
+use Rattle.hs_grammar.specs.Combinators.{word, ◌>>◌, ◌<<◌, ◌&◌, optional, star, plus, list_read}
 use Rattle.hs_syntax.specs.declared.span.Span.{Span}
 use Rattle.hs_syntax.specs.declared.exp.Exp.{Exp}
 use Rattle.hs_syntax.specs.declared.exp.Exp.TheVariants as exp
@@ -19,7 +19,7 @@ use Rattle.hs_syntax.specs.Spans.{span_of_exp}
 use Rattle.hs_forms.specs.declared.token.Kind.TheVariants as k
 use Rattle.hs_forms.specs.Lexis.{lexis}
 use Rattle.hs_forms.specs.Nodes.{across, group_of, tuple_of, arm_of, all_arms}
-use Rattle.hs_forms.specs.Grammar.{rules, F, at, name, comma, expression, block, lent, lent_arg, list_arg, arg_form, args_rest, args, path_form, call_form, behind_first, grouped_rest, grouped, if_form, block_value, exp_value, arm_form, arm_pattern, behind_ctor, member_pattern, patterns, next_arms, arms_of, arms, match_form, alone, prim, method, behind_dot, index, postfix_form, step_form, post, unary, cast, operator, operand, operands, levels, binary}
+use Rattle.hs_forms.specs.Reading.{rules, F, at, name, comma, expression, block, lent, lent_arg, list_arg, arg_form, args_rest, args, path_form, call_form, behind_first, grouped_rest, grouped, if_form, block_value, exp_value, arm_form, arm_pattern, behind_ctor, member_pattern, patterns, next_arms, arms_of, arms, match_form, alone, prim, method, behind_dot, index, postfix_form, step_form, post, unary, cast, operator, operand, operands, levels, binary}
 use Rattle.hs_forms.specs.Written.{or_empty, written_path, written_arg, written_args, written_arm, last_arm, written_arms, written_match, written_alone, written_grouped, written_call, written_prim, written_postfix, written_post, written_unary, written_cast, chain_of, written_product, written_sum, written_shift, written_bit_and, written_bit_xor, written_bit_or, written_comparison, written_and, written_exp}
 use Rattle.hs_forms.proofs.Factor.{same_by}
 use Rattle.hs_forms.proofs.Flags.{flagged, parted, split_flag, loop_flag, ended_same}

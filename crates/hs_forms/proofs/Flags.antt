@@ -3,7 +3,7 @@ use Rattle.std.proofs.Common.{◌≡◌, Bool, true, false, List, [], ◌∷◌,
 use Rattle.hs_grammar.specs.Form.{Lexis, Rules, Step, More, Last, Form, Map, Seq, Split, Alt, Loop}
 use Rattle.hs_grammar.specs.Derives.{Derivings, Beginnings, Turns, Where, Derives, Begun}
 use Rattle.hs_grammar.specs.Same.{Same, Sane}
-use Rattle.hs_grammar.specs.Words.{item, star, plus, optional, ◌>>◌, ◌<<◌, ◌&◌}
+use Rattle.hs_grammar.specs.Combinators.{item, star, plus, optional, ◌>>◌, ◌<<◌, ◌&◌}
 use Rattle.hs_grammar.proofs.Exact.{begun_nothing, begun_by}
 use Rattle.hs_grammar.proofs.Same.{same, same_sym, same_trans, same_split, same_map, same_loop}
 use Rattle.hs_grammar.proofs.Lists.{same_tail}

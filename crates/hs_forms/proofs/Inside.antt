@@ -3,12 +3,12 @@ use Rattle.std.proofs.Common.{List, Option, inl, inr, refl, ap, ◌∙◌}
 use Rattle.hs_grammar.specs.Form.{Step, Map, Seq, Alt, Loop, Unless}
 use Rattle.hs_grammar.specs.Derives.{Derivings, Beginnings}
 use Rattle.hs_grammar.specs.Same.{Same, Sane}
-use Rattle.hs_grammar.specs.Words.{optional, star, list, list_read}
+use Rattle.hs_grammar.specs.Combinators.{optional, star, list, list_read}
 use Rattle.hs_grammar.proofs.Same as forms
 use Rattle.hs_grammar.proofs.Lists as lists
 use Rattle.hs_forms.specs.declared.token.Kind.{Kind}
 use Rattle.hs_forms.specs.Lexis.{lexis}
-use Rattle.hs_forms.specs.Grammar.{rules, F, comma}
+use Rattle.hs_forms.specs.Reading.{rules, F, comma}
 
 module _ (ρ : Derivings lexis rules) (β : Beginnings lexis rules) where
   pub keep : {A : Type 0} {f : F A} → Same ρ β f f

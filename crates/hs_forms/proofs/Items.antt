@@ -3,13 +3,13 @@ use Rattle.std.proofs.Common.{List, [], ◌∷◌, Option, refl}
 use Rattle.hs_grammar.specs.Form.{Map, Seq, Alt}
 use Rattle.hs_grammar.specs.Derives.{Derivings, Beginnings}
 use Rattle.hs_grammar.specs.Same.{Same, Sane}
-use Rattle.hs_grammar.specs.Words.{word, ◌>>◌, ◌<<◌, ◌&◌, optional, list_read}
+use Rattle.hs_grammar.specs.Combinators.{word, ◌>>◌, ◌<<◌, ◌&◌, optional, list_read}
 use Rattle.hs_syntax.specs.declared.span.Span.{Span}
 use Rattle.hs_syntax.specs.declared.item.Param.{Param}
 use Rattle.hs_syntax.specs.declared.item.Item.{Item}
 use Rattle.hs_forms.specs.declared.token.Kind.TheVariants as k
 use Rattle.hs_forms.specs.Lexis.{lexis}
-use Rattle.hs_forms.specs.Grammar.{rules, F, at, name, int, comma, mutable_param, lent_type, mode_type, named_param, param, parts, ctor, Declared, const_form, alias_form, struct_form, enum_form, params_rest, params, result_type, fn_form, data_form, declaration, derive_names, derived_item, public_item, plain_item, use_form, array_form, bytes_form, nat_mod_names, nat_mod_values, nat_mod_form, other_item, item_form, file_form}
+use Rattle.hs_forms.specs.Reading.{rules, F, at, name, int, comma, mutable_param, lent_type, mode_type, named_param, param, parts, ctor, Declared, const_form, alias_form, struct_form, enum_form, params_rest, params, result_type, fn_form, data_form, declaration, derive_names, derived_item, public_item, plain_item, use_form, array_form, bytes_form, nat_mod_names, nat_mod_values, nat_mod_form, other_item, item_form, file_form}
 use Rattle.hs_forms.specs.Written.{or_empty, written_param, written_parts, written_ctor, written_struct, written_enum, written_params, written_fn, derive_list, derived_of, bare, public, written_item, written_file}
 use Rattle.hs_forms.proofs.Factor.{same_by}
 use Rattle.hs_forms.proofs.Inside.{keep, by, seq, alt, along, maybe, stars, lists_read}

@@ -3,7 +3,7 @@ use Rattle.std.proofs.Common.{List, [], ◌∷◌, Option, refl}
 use Rattle.hs_grammar.specs.Form.{Map, Seq, Alt}
 use Rattle.hs_grammar.specs.Derives.{Derivings, Beginnings}
 use Rattle.hs_grammar.specs.Same.{Same, Sane}
-use Rattle.hs_grammar.specs.Words.{word, ◌>>◌, ◌&◌, optional, list_read}
+use Rattle.hs_grammar.specs.Combinators.{word, ◌>>◌, ◌&◌, optional, list_read}
 use Rattle.hs_syntax.specs.declared.span.Span.{Span}
 use Rattle.hs_syntax.specs.declared.pat.Pat.{Pat}
 use Rattle.hs_syntax.specs.declared.pat.Pat.TheVariants as pat
@@ -12,7 +12,7 @@ use Rattle.hs_syntax.specs.declared.pat.ArmPat.TheVariants as arm_pat
 use Rattle.hs_forms.specs.declared.token.Kind.TheVariants as k
 use Rattle.hs_forms.specs.Lexis.{lexis}
 use Rattle.hs_forms.specs.Nodes.{across, tuple_pat}
-use Rattle.hs_forms.specs.Grammar.{rules, F, at, name, comma, pattern, patterns, named_pattern, mutable_pattern, tuple_pattern, pat_form, member_pattern, behind_ctor, arm_pattern}
+use Rattle.hs_forms.specs.Reading.{rules, F, at, name, comma, pattern, patterns, named_pattern, mutable_pattern, tuple_pattern, pat_form, member_pattern, behind_ctor, arm_pattern}
 use Rattle.hs_forms.specs.Written.{maybe_mutable, written_patterns, written_pat, member_of, written_arm_pat}
 use Rattle.hs_forms.proofs.Factor.{same_by}
 use Rattle.hs_forms.proofs.Inside.{keep, by, seq, alt, maybe, lists_read}

@@ -1,7 +1,7 @@
 -- An expression that is a place.
 use Rattle.std.proofs.Common.{◌≡◌, Bool, true, false, List, [], ◌∷◌, ◌++◌, map, Option, Some, None, ◌⊎◌, inl, inr, refl, sym, ap, ◌∙◌, subst, append-nil}
 use Rattle.hs_grammar.specs.Derives.{Derivings, Beginnings, Turns, Derives, Begun}
-use Rattle.hs_grammar.specs.Words.{item, star}
+use Rattle.hs_grammar.specs.Combinators.{item, star}
 use Rattle.hs_syntax.specs.declared.span.Span.{Span}
 use Rattle.hs_syntax.specs.declared.span.Int.{Int}
 use Rattle.hs_syntax.specs.declared.ty.Ty.{Ty}
@@ -24,7 +24,7 @@ use Rattle.hs_forms.specs.declared.token.Token.{Token}
 use Rattle.hs_forms.specs.Lexis.{lexis}
 use Rattle.hs_forms.specs.Nodes.{across, last_of, call_of, post_of}
 use Rattle.hs_forms.specs.Blocks.{step_layer, step_in, and_steps, all_steps, name_layer, name_in, stepped, steps_layer, steps_in, target_of, place_layer, place_in}
-use Rattle.hs_forms.specs.Grammar.{rules, name, path_of_type, behind_separator, named_path, path_form, call_form, behind_first, grouped_rest, grouped, if_form, match_form, literal, alone, prim, method, behind_dot, postfix_form, post, step_form, place_form, steps_end, plain_target}
+use Rattle.hs_forms.specs.Reading.{rules, name, path_of_type, behind_separator, named_path, path_form, call_form, behind_first, grouped_rest, grouped, if_form, match_form, literal, alone, prim, method, behind_dot, postfix_form, post, step_form, place_form, steps_end, plain_target}
 use Rattle.hs_forms.proofs.Flags.{one_turn, no_last}
 use Rattle.hs_forms.proofs.Layers.{Layer, out_int, out_bool, out_unit, out_group, out_tuple, out_path, out_call, out_block, out_if, out_match, out_post, out_cast, out_binary, out_try, out_method, out_step}
 

@@ -9,9 +9,9 @@ use Rattle.hs_syntax.specs.declared.ty.Ty.TheVariants as ty
 use Rattle.hs_forms.specs.declared.token.Kind.{Kind}
 use Rattle.hs_forms.specs.declared.token.Kind.TheVariants as k
 use Rattle.hs_forms.specs.declared.token.Token.{Token}
-use Rattle.hs_forms.specs.Lexis.{tells}
-use Rattle.hs_forms.specs.Grammar.{RType, grammar, tables, name, next_type, next_types, types, angle, closed, close_maybe, maybe_closed, tuple_items, tuple_rest, bracketed, type_form, maybe_form}
-use Rattle.hs_forms.specs.Fits.{fits}
+use Rattle.hs_forms.specs.Lexis.{decides}
+use Rattle.hs_forms.specs.Reading.{RType, grammar, tables, name, next_type, next_types, types, angle, closed, close_maybe, maybe_closed, tuple_items, tuple_rest, bracketed, type_form, maybe_form}
+use Rattle.hs_forms.specs.Lookahead.{fits}
 use Rattle.hs_forms.specs.Written.{written}
 use Rattle.hs_forms.proofs.Agree.{agree}
 
@@ -28,7 +28,7 @@ pub closed_twice : DerivesAs written RType
     (token k.Name 0 1 ∷ token k.Less 1 2 ∷ token k.Name 2 3 ∷ token k.Less 3 4 ∷ token k.Name 4 5 ∷ token k.ShiftFront 5 7 ∷ token k.ShiftBack 5 7 ∷ [])
     (ty.Applied (span 0 7) (span 0 1) (ty.Applied (span 2 7) (span 2 3) (ty.Name (span 4 5) ∷ []) ∷ []))
 unfolding looped name next_type next_types types angle closed close_maybe maybe_closed tuple_items tuple_rest bracketed type_form maybe_form
-closed_twice = answers tells written grammar agree tables fits 3 RType
+closed_twice = answers decides written grammar agree tables fits 3 RType
     (token k.Name 0 1 ∷ token k.Less 1 2 ∷ token k.Name 2 3 ∷ token k.Less 3 4 ∷ token k.Name 4 5 ∷ token k.ShiftFront 5 7 ∷ token k.ShiftBack 5 7 ∷ [])
 
 -- in A<B>> the `>>` is the first token that cannot stand where it stands
@@ -36,5 +36,5 @@ pub closed_too_often : Breaks written RType
     (token k.Name 0 1 ∷ token k.Less 1 2 ∷ token k.Name 2 3 ∷ token k.ShiftFront 3 5 ∷ token k.ShiftBack 3 5 ∷ [])
     (token k.ShiftFront 3 5 ∷ token k.ShiftBack 3 5 ∷ [])
 unfolding looped name next_type next_types types angle closed close_maybe maybe_closed tuple_items tuple_rest bracketed type_form maybe_form
-closed_too_often = answers tells written grammar agree tables fits 3 RType
+closed_too_often = answers decides written grammar agree tables fits 3 RType
     (token k.Name 0 1 ∷ token k.Less 1 2 ∷ token k.Name 2 3 ∷ token k.ShiftFront 3 5 ∷ token k.ShiftBack 3 5 ∷ [])

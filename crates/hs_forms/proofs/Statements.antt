@@ -5,7 +5,7 @@ use Rattle.hs_grammar.specs.Form.{Step as Turn, More, Last, Map, Seq, Alt, Loop}
 use Rattle.hs_grammar.specs.Kinds.{starts}
 use Rattle.hs_grammar.specs.Derives.{Derivings, Beginnings, Where, Derives, Begun}
 use Rattle.hs_grammar.specs.Same.{Same, Sane}
-use Rattle.hs_grammar.specs.Words.{optional, star}
+use Rattle.hs_grammar.specs.Combinators.{optional, star}
 use Rattle.hs_grammar.proofs.Lists.{same_tail}
 use Rattle.hs_syntax.specs.declared.span.Span.{Span}
 use Rattle.hs_syntax.specs.declared.exp.BinaryOp.{BinaryOp}
@@ -21,7 +21,7 @@ use Rattle.hs_forms.specs.declared.piece.Piece.TheVariants as piece
 use Rattle.hs_forms.specs.Lexis.{lexis}
 use Rattle.hs_forms.specs.Nodes.{across}
 use Rattle.hs_forms.specs.Blocks.{place_in, is_some, is_place, alone_of, exp_stmt_of, assign_to, assign_of, step_of_piece}
-use Rattle.hs_forms.specs.Grammar.{RExp, RPlaced, rules, F, at, let_form, for_form, returned, return_form, alone, alone_form, assigned, finished, behind_place, exp_form, piece_form, pieces, block_form}
+use Rattle.hs_forms.specs.Reading.{RExp, RPlaced, rules, F, at, let_form, for_form, returned, return_form, alone, alone_form, assigned, finished, behind_place, exp_form, piece_form, pieces, block_form}
 use Rattle.hs_forms.specs.Written.{let_stmt, assign_stmt, for_stmt, return_stmt, alone_stmt, exp_stmt, written_stmt, tail_exp, written_block}
 use Rattle.hs_forms.proofs.Factor.{same_by}
 use Rattle.hs_forms.proofs.Inside.{keep, by, back, seq, alt, along, loop, map_seq}

@@ -5,7 +5,7 @@ use Rattle.hs_grammar.specs.Form.{Grammar}
 use Rattle.hs_grammar.specs.Kinds.{has, disjoint, starts}
 use Rattle.hs_grammar.specs.Derives.{Derivings, Beginnings, Turns, Derives, Begun, DerivesBy, BegunBy}
 use Rattle.hs_grammar.specs.Same.{Same}
-use Rattle.hs_grammar.specs.Words.{word, ◌>>◌, item, star}
+use Rattle.hs_grammar.specs.Combinators.{word, ◌>>◌, item, star}
 use Rattle.hs_grammar.proofs.Sets.{has-disjoint}
 use Rattle.hs_syntax.specs.declared.span.Span.{Span}
 use Rattle.hs_syntax.specs.declared.exp.PrefixOp.{PrefixOp}
@@ -20,10 +20,10 @@ use Rattle.hs_syntax.specs.Spans.{span_of_exp}
 use Rattle.hs_forms.specs.declared.token.Kind.{Kind}
 use Rattle.hs_forms.specs.declared.token.Kind.TheVariants as k
 use Rattle.hs_forms.specs.declared.token.Token.{Token}
-use Rattle.hs_forms.specs.Lexis.{lexis, tells, same}
+use Rattle.hs_forms.specs.Lexis.{lexis, decides, same}
 use Rattle.hs_forms.specs.Nodes.{across, prefix_of, prefix_named, cast_of, binary_of}
 use Rattle.hs_forms.specs.Blocks.{steps_layer, steps_in, target_of, starred, place_layer, place_in}
-use Rattle.hs_forms.specs.Grammar.{Rule, RExp, RUnary, RPlace, RPlaced, rules, F, name_kinds, name, post, unary, cast, operand, one_or_none, operands, levels, binary, place_form, plain_target, starred_target, placed_form, grammar}
+use Rattle.hs_forms.specs.Reading.{Rule, RExp, RUnary, RPlace, RPlaced, rules, F, name_kinds, name, post, unary, cast, operand, one_or_none, operands, levels, binary, place_form, plain_target, starred_target, placed_form, grammar}
 use Rattle.hs_forms.proofs.Flags.{no_last}
 use Rattle.hs_forms.proofs.Layers.{out_prefix}
 use Rattle.hs_forms.proofs.Places.{Stepping, no_cast, no_binary, post_is, post_from, post_begun}
@@ -61,7 +61,7 @@ starred_place t e q h s =
     ∙ ap (λ z. target_of (across t.span z) true (Some q)) s.1.1
 
 star_kind : (t : Token) → has lexis (k.Star ∷ []) t.kind ≡ true → t.kind ≡ k.Star
-star_kind t h = elim (or_cases (same k.Star t.kind) false h) [ inl e ↦ sym (tells.one k.Star t.kind e) | inr e ↦ absurd (both_ways false refl e) ]
+star_kind t h = elim (or_cases (same k.Star t.kind) false h) [ inl e ↦ sym (decides.one k.Star t.kind e) | inr e ↦ absurd (both_ways false refl e) ]
 
 star_prefix : (t : Token) → has lexis (k.Star ∷ []) t.kind ≡ true → has lexis (k.Minus ∷ k.Not ∷ k.Star ∷ []) t.kind ≡ true
 star_prefix t h = or_right (same k.Minus t.kind) (same k.Not t.kind || (same k.Star t.kind || false)) (or_right (same k.Not t.kind) (same k.Star t.kind || false) h)
@@ -72,7 +72,7 @@ star_starts (t ∷ w) h = star_prefix t h
 
 -- a token of a kind that begins nothing that stands alone
 apart_token : (ks : List Kind) (t : Token) (v : List Token) → disjoint lexis ks alone_kinds ≡ true → has lexis ks t.kind ≡ true → starts lexis alone_kinds (t ∷ v) ≡ false
-apart_token ks t v d h = has-disjoint lexis tells ks alone_kinds t.kind d h
+apart_token ks t v d h = has-disjoint lexis decides ks alone_kinds t.kind d h
 
 module _ (ρ : Derivings lexis rules) (β : Beginnings lexis rules) (targets : Targets ρ β) where
   -- ---- operands with a prefix
@@ -116,11 +116,11 @@ module _ (ρ : Derivings lexis rules) (β : Beginnings lexis rules) (targets : T
           none prefix.Read (ap prefix_named (star_kind t h)) (ap (λ z. target_of (across t.span (span_of_exp a)) true z) s)
 
       rest : (same k.Not t.kind ≡ true) ⊎ (same k.Star t.kind || false ≡ true) → Placing w e
-      rest (inl h) = none prefix.Not (ap prefix_named (sym (tells.one k.Not t.kind h))) refl
+      rest (inl h) = none prefix.Not (ap prefix_named (sym (decides.one k.Not t.kind h))) refl
       rest (inr h) = read h (targets.steps v a da)
 
       pick : (same k.Minus t.kind ≡ true) ⊎ (same k.Not t.kind || (same k.Star t.kind || false) ≡ true) → Placing w e
-      pick (inl h) = none prefix.Negate (ap prefix_named (sym (tells.one k.Minus t.kind h))) refl
+      pick (inl h) = none prefix.Negate (ap prefix_named (sym (decides.one k.Minus t.kind h))) refl
       pick (inr h) = rest (or_cases (same k.Not t.kind) (same k.Star t.kind || false) h)
 
   unary_place : (w : List Token) (p : Target × List Step) → Derives ρ placed_form w p → (e : Exp) × Derives ρ unary w e × (place_in e ≡ Some p)

@@ -3,7 +3,7 @@ use Rattle.std.proofs.Common.{zero, Bool, true, false, List, [], ◌∷◌, ◌+
 use Rattle.hs_grammar.specs.Form.{Pure, Map, Seq, Alt, Grammar}
 use Rattle.hs_grammar.specs.Derives.{Derivings, Beginnings, Derives, Begun, DerivesBy, BegunBy}
 use Rattle.hs_grammar.specs.Same.{Same, Sane}
-use Rattle.hs_grammar.specs.Words.{word, rule, ◌>>◌, ◌&◌, optional, star, separated, list_read}
+use Rattle.hs_grammar.specs.Combinators.{word, rule, ◌>>◌, ◌&◌, optional, star, separated, list_read}
 use Rattle.hs_syntax.specs.declared.span.Span.{Span}
 use Rattle.hs_syntax.specs.declared.ty.Ty.{Ty}
 use Rattle.hs_syntax.specs.declared.ty.Ty.TheVariants as ty
@@ -12,7 +12,7 @@ use Rattle.hs_syntax.specs.declared.exp.Path.TheVariants as path
 use Rattle.hs_forms.specs.declared.token.Kind.TheVariants as k
 use Rattle.hs_forms.specs.Lexis.{lexis}
 use Rattle.hs_forms.specs.Nodes.{across, tuple_ty, all_types}
-use Rattle.hs_forms.specs.Grammar.{Rule, RType, RMaybe, ROpen, rules, F, at, name, comma, type_, next_type, next_types, types, angle, applied_of, closed, close_maybe, maybe_closed, named_ty, named_maybe, tuple_items, tuple_rest, bracketed, type_form, maybe_form, path_type, path_of_type, behind_separator, named_path, path_form, open_form, grammar}
+use Rattle.hs_forms.specs.Reading.{Rule, RType, RMaybe, ROpen, rules, F, at, name, comma, type_, next_type, next_types, types, angle, applied_of, closed, close_maybe, maybe_closed, named_ty, named_maybe, tuple_items, tuple_rest, bracketed, type_form, maybe_form, path_type, path_of_type, behind_separator, named_path, path_form, open_form, grammar}
 use Rattle.hs_forms.specs.Written.{open_ty, opened, unit_type, tuple_type, applied_type, applied_open, written_type, written_maybe, path_of, path_of_open, written_path}
 use Rattle.hs_forms.proofs.Factor.{same_by}
 use Rattle.hs_forms.proofs.Flags.{flagged, parted, split_flag, loop_flag, behind_each, between_them, shift}

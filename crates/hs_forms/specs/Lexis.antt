@@ -2,7 +2,7 @@
 use Rattle.std.specs.Prelude.{Bool}
 use denote.Enum.Bare.{sameb, same_true, true_same}
 use Rattle.hs_grammar.specs.Form.{Lexis, lexis_of}
-use Rattle.hs_grammar.specs.Kinds.{Tells}
+use Rattle.hs_grammar.specs.Kinds.{Decides}
 use Rattle.hs_forms.specs.declared.token.Kind.{Kind}
 use Rattle.hs_forms.specs.contracts.token.Kind.{the_type}
 use Rattle.hs_forms.specs.declared.token.Token.{Token}
@@ -18,5 +18,5 @@ abbrev pub lexis : Lexis
 lexis = lexis_of kind_of same
 
 -- the test of kinds is exact
-pub tells : Tells lexis
-tells = record { one = same_true the_type tt; alike = true_same the_type }
+pub decides : Decides lexis
+decides = record { one = same_true the_type tt; alike = true_same the_type }

@@ -3,7 +3,7 @@ pub mod Kinds
 pub mod Tokens
 pub mod Nodes
 pub mod Blocks
-pub mod Grammar
-pub mod Fits
 pub mod Reading
+pub mod Lookahead
+pub mod Parsers
 pub mod Written

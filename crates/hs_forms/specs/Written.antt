@@ -1,7 +1,7 @@
 -- The grammar of the source language as it is written: the language's definition.
 use Rattle.std.specs.Prelude.{List, [], ◌∷◌, ◌++◌, Bool, true, false, Option, Some, None}
 use Rattle.hs_grammar.specs.Form.{Tok, Map, Seq, Alt, Unless, Grammar}
-use Rattle.hs_grammar.specs.Words.{word, rule, ◌>>◌, ◌<<◌, ◌&◌, optional, star, plus, separated, list}
+use Rattle.hs_grammar.specs.Combinators.{word, rule, ◌>>◌, ◌<<◌, ◌&◌, optional, star, plus, separated, list}
 use Rattle.hs_syntax.specs.declared.span.Span.{Span}
 use Rattle.hs_syntax.specs.declared.ty.Ty.{Ty}
 use Rattle.hs_syntax.specs.declared.ty.Ty.TheVariants as ty
@@ -36,7 +36,7 @@ use Rattle.hs_forms.specs.declared.token.Kind.TheVariants as k
 use Rattle.hs_forms.specs.Lexis.{lexis}
 use Rattle.hs_forms.specs.Nodes.{across, tuple_ty, tuple_pat, binary_of, operand_of, cast_of, post_of, prefix_of, group_of, tuple_of, call_of, match_of, arm_of}
 use Rattle.hs_forms.specs.Blocks.{let_of, for_of, return_of, alone_of, exp_stmt_of, with_tail, block_of}
-use Rattle.hs_forms.specs.Grammar.{RFile, RType, RMaybe, RPat, RExp, RUnary, RBlock, RIf, ROpen, RPlace, RPlaced, rules, F, at, name, comma, type_, applied_of, pattern, expression, block, if_form, literal, operator, one_or_none, step_form, loop_variable, assign_op, lent_mode, ctor_of, Declared, const_form, alias_form, result_type, item_of, use_form, array_form, bytes_form, nat_mod_form, open_form, place_form, placed_form}
+use Rattle.hs_forms.specs.Reading.{RFile, RType, RMaybe, RPat, RExp, RUnary, RBlock, RIf, ROpen, RPlace, RPlaced, rules, F, at, name, comma, type_, applied_of, pattern, expression, block, if_form, literal, operator, one_or_none, step_form, loop_variable, assign_op, lent_mode, ctor_of, Declared, const_form, alias_form, result_type, item_of, use_form, array_form, bytes_form, nat_mod_form, open_form, place_form, placed_form}
 
 -- the items of a list that may be missing
 abbrev pub or_empty : {A : Type 0} → Option (List A) → List A

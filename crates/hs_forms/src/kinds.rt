@@ -1,23 +1,12 @@
 //! The kinds of words and marks.
 
-ghost use Rattle.std.specs.Prelude.{◌≡◌, ◌-◌, take, drop, bytes_eq};
+ghost use Rattle.std.specs.Prelude.{◌≡◌, bytes_eq};
 ghost use Rattle.std.specs.Str.{all_ascii_digits};
 ghost use Rattle.hs_forms.specs.Kinds.{named, long_marks, reserved_kind, name_kind, mark_kind, number_kind, kind_of};
 ghost use Rattle.hs_forms.specs.declared.token.Kind.TheVariants.{Unused};
 
 use crate::token::Kind;
-use hs_base::parts::{behind, front};
 use hs_lexer::TokenKind;
-
-/// The bytes of the text from one place up to another, as far as there are any.
-pub fn spelling(text: &[u8], start: u32, end: u32) -> &[u8]
-    ensures { result.now ≡ take (end - start) (drop start text.now) }
-{
-    front(
-        behind(text, start as usize),
-        end.saturating_sub(start) as usize,
-    )
-}
 
 /// Whether the bytes are those of the text.
 fn is(bytes: &[u8], text: &str) -> bool

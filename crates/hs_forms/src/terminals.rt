@@ -6,7 +6,7 @@ ghost use Rattle.hs_grammar.specs.Parser.{giving, token_of};
 ghost use Rattle.hs_grammar.specs.Reads.{Reads};
 ghost use Rattle.hs_forms.specs.Lexis.{lexis};
 ghost use Rattle.hs_forms.specs.Nodes.{span_of, int_of, across};
-ghost use Rattle.hs_forms.specs.Grammar.{name_kinds};
+ghost use Rattle.hs_forms.specs.Reading.{name_kinds};
 
 use crate::token::{Kind, NAME_KINDS, Token};
 use hs_grammar::cursor::Tokens;

@@ -2,11 +2,12 @@
 
 ghost use Rattle.std.specs.Prelude.{◌≡◌, ◌++◌, IfOk};
 ghost use Rattle.hs_forms.specs.Nodes.{int_of};
-ghost use Rattle.hs_forms.specs.Grammar.{is_name};
+ghost use Rattle.hs_forms.specs.Reading.{is_name};
 ghost use Rattle.hs_forms.specs.Tokens.{value_of, suffix_of, placed, both, tokens_of};
 
-use crate::kinds::{kind_of, spelling};
+use crate::kinds::kind_of;
 use hs_base::memory::NoMemory;
+use hs_base::parts::between;
 use hs_grammar::cursor::Lexeme;
 use hs_lexer::{Token as Spelled, TokenKind};
 use hs_syntax::{Int, Span};
@@ -307,7 +308,7 @@ pub fn tokens_of(alloc: Global, text: &[u8], tokens: &[Spelled]) -> Result<Items
 {
     let mut into = Items::new(alloc);
     for token in tokens {
-        let bytes = spelling(text, token.start, token.end);
+        let bytes = between(text, token.start, token.end);
         push_both(&mut into, kind_of(token.kind, bytes), *token)?;
     }
     Ok(into)

@@ -18,7 +18,7 @@ use Rattle.hs_front.specs.declared.syntax.Body.{Body}
 use Rattle.hs_front.specs.declared.parse.Part.{Part}
 use Rattle.hs_front.specs.declared.parse.Part.TheVariants as parts
 use Rattle.hs_front.specs.Lexis.{lexis}
-use Rattle.hs_front.specs.Language.{local, assigned, binding, sum, sum_of, only, with_stmt}
+use Rattle.hs_front.specs.Written.{local, assigned, binding, sum, sum_of, only, with_stmt}
 use Rattle.hs_front.specs.Reading.{reads, more, numeric, behind, behind_name, body_read, step, assigns, begins_value, named, named_step}
 
 -- a body that goes on with this part, and then as the parser says

@@ -16,7 +16,7 @@ use Rattle.hs_front.specs.declared.syntax.Stmt.TheVariants as stmts
 use Rattle.hs_front.specs.declared.syntax.Body.{Body}
 use Rattle.hs_front.specs.declared.syntax.File.{File}
 use Rattle.hs_front.specs.Lexis.{lexis}
-use Rattle.hs_front.specs.Language.{AFile, rules, F, up_to, local, prim, addend, sum, sum_of, param, next_param, params, assigned, mutable, binding, assignment, stmt, body, only, with_stmt, visibility, title, opening, file, written}
+use Rattle.hs_front.specs.Written.{AFile, rules, F, up_to, local, prim, addend, sum, sum_of, param, next_param, params, assigned, mutable, binding, assignment, stmt, body, only, with_stmt, visibility, title, opening, file, written}
 use Rattle.hs_front.specs.Scope.{text_at}
 use Rattle.hs_front.proofs.Names.{IsFair, names_kinds}
 

@@ -10,7 +10,7 @@ use Rattle.hs_grammar.specs.declared.error.Refusal.TheVariants as refusals
 use Rattle.hs_front.specs.declared.symbol.Symbol.{Symbol}
 use Rattle.hs_front.specs.declared.syntax.File.{File}
 use Rattle.hs_front.specs.Lexis.{lexis}
-use Rattle.hs_front.specs.Language.{F, rules, up_to, local, prim, addend, sum, param, next_param, params, assigned, mutable, binding, visibility, title, opening}
+use Rattle.hs_front.specs.Written.{F, rules, up_to, local, prim, addend, sum, param, next_param, params, assigned, mutable, binding, visibility, title, opening}
 use Rattle.hs_front.specs.Reading.{tables, grammar, more, behind_name, numeric, body_read, file_read, reads}
 
 -- no rule and no loop stands in the form

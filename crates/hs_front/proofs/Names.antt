@@ -21,7 +21,7 @@ use Rattle.hs_front.specs.declared.symbol.Kind.{Kind}
 use Rattle.hs_front.specs.declared.symbol.Kind.TheVariants.{Pub, Fn, Let, Mut, U32, BuiltIn, Name, Number, LeftParenthesis, RightParenthesis, LeftBrace, RightBrace, Comma, Colon, Semicolon, Arrow, Equals, Plus, Other}
 use Rattle.hs_front.specs.declared.symbol.Symbol.{Symbol}
 use Rattle.hs_front.specs.Lexis.{lexis}
-use Rattle.hs_front.specs.Words.{reserved_kind, number_kind, mark_kind, is_none, kind_of}
+use Rattle.hs_front.specs.Kinds.{reserved_kind, number_kind, mark_kind, is_none, kind_of}
 use Rattle.hs_front.specs.Symbols.{symbol_of, symbols_of, value_of}
 use Rattle.hs_front.specs.Scope.{text_at}
 use Rattle.hs_grammar.specs.Kinds.{has}

@@ -19,7 +19,7 @@ use Rattle.hs_front.specs.declared.syntax.Body.{Body}
 use Rattle.hs_front.specs.declared.syntax.File.{File}
 use Rattle.hs_front.specs.Lexis.{lexis}
 use Rattle.hs_front.specs.Symbols.{symbols_of}
-use Rattle.hs_front.specs.Language.{AFile, rules, F, up_to, local, prim, addend, sum, sum_of, param, next_param, params, assigned, mutable, binding, assignment, stmt, body, only, with_stmt, title, opening, file, written}
+use Rattle.hs_front.specs.Written.{AFile, rules, F, up_to, local, prim, addend, sum, sum_of, param, next_param, params, assigned, mutable, binding, assignment, stmt, body, only, with_stmt, title, opening, file, written}
 use Rattle.hs_front.specs.Scope.{Scope, text_at, found, bound}
 use Rattle.hs_front.specs.Marks.{Mark, mark, where_none, where_fixed, prim_marks, parts_marks, sum_marks, stmt_marks, behind_stmt, body_marks, param_marks, with_params, name_marks, type_marks_from, type_marks, IsOneOf, IsFirst}
 

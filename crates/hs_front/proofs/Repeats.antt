@@ -8,7 +8,7 @@ use Rattle.hs_grammar.specs.Parser.{Res, Done, giving, and_then}
 use Rattle.hs_grammar.proofs.Reading.{giving-giving, giving-same, reads_err}
 use Rattle.hs_front.specs.declared.symbol.Symbol.{Symbol}
 use Rattle.hs_front.specs.Lexis.{lexis}
-use Rattle.hs_front.specs.Language.{F, up_to}
+use Rattle.hs_front.specs.Written.{F, up_to}
 use Rattle.hs_front.specs.Reading.{tables, reads}
 
 module _ {A : Type 0} (f : F A) (full : empty tables f ≡ false) where

@@ -13,11 +13,11 @@ use Rattle.hs_lexer.specs.declared.token.Token.{Token}
 use Rattle.hs_lexer.specs.Places.{Placed}
 use Rattle.hs_lexer.specs.Lexes.{Lexes, LexBreak}
 use Rattle.hs_syntax.specs.declared.file.File.{File as Whole}
-use Rattle.hs_parser.specs.Told.{IsRead, Tells, Unanswered}
+use Rattle.hs_parser.specs.Told.{IsRead, Diagnosis, Unanswered}
 use Rattle.hs_front.specs.declared.symbol.Symbol.{Symbol}
 use Rattle.hs_front.specs.declared.syntax.File.{File}
 use Rattle.hs_front.specs.Symbols.{symbols_of}
-use Rattle.hs_front.specs.Language.{AFile, written}
+use Rattle.hs_front.specs.Written.{AFile, written}
 use Rattle.hs_front.specs.Marks.{Mark, name_marks, type_marks, IsFirst}
 use Rattle.hs_front.specs.Program.{program_from}
 use Rattle.hs_front.specs.Told.{AcceptedBehind, AcceptedTokens, Accepted, break_at, told_at, FileBreak, ToldBehind, ToldTokens, Told}

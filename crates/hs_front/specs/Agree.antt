@@ -9,7 +9,7 @@ use Rattle.hs_front.specs.declared.syntax.Prim.TheVariants as prims
 use Rattle.hs_front.specs.declared.syntax.Stmt.TheVariants as stmts
 use Rattle.hs_front.specs.declared.syntax.Body.{Body}
 use Rattle.hs_front.specs.Lexis.{lexis}
-use Rattle.hs_front.specs.Language.{Rule, AFile, rules, F, local, prim, sum, sum_of, binding, assignment, stmt, body, only, with_stmt, file, written}
+use Rattle.hs_front.specs.Written.{Rule, AFile, rules, F, local, prim, sum, sum_of, binding, assignment, stmt, body, only, with_stmt, file, written}
 use Rattle.hs_front.specs.Reading.{more, numeric, behind_name, body_read, file_read, grammar, assigns, begins_value, named}
 
 module _ (ρ : Derivings lexis rules) (β : Beginnings lexis rules) where

@@ -1,7 +1,7 @@
-pub mod Words
+pub mod Kinds
 pub mod Symbols
 pub mod Lexis
-pub mod Language
+pub mod Written
 pub mod Reading
 pub mod UpTo
 pub mod Lookahead

@@ -2,13 +2,13 @@
 use Rattle.std.proofs.Common.{◌≡◌, ℕ, zero, suc, true, false, List, [], ◌∷◌, ◌++◌, ◌&&◌, ◌||◌, cond, refl, ap}
 use Rattle.hs_grammar.specs.Kinds.{disjoint}
 use Rattle.hs_grammar.specs.Lookahead.{Fits, FitsRule, empty, begin, go_on}
-use Rattle.hs_grammar.specs.Words.{word, ◌&◌, ◌>>◌, ◌<<◌}
+use Rattle.hs_grammar.specs.Combinators.{word, ◌&◌, ◌>>◌, ◌<<◌}
 use Rattle.hs_grammar.proofs.Fits.{fits_by}
 use Rattle.hs_front.specs.declared.symbol.Kind.TheVariants.{Plus, Comma, RightParenthesis, RightBrace, Semicolon, Equals}
 use Rattle.hs_front.specs.declared.syntax.Span.{Span}
 use Rattle.hs_front.specs.declared.syntax.Body.{Body}
-use Rattle.hs_front.specs.Lexis.{lexis, tells}
-use Rattle.hs_front.specs.Language.{Rule, AFile, rules, F, up_to, local, prim, addend, sum, param, next_param, params, assigned, mutable, binding, visibility, title, opening}
+use Rattle.hs_front.specs.Lexis.{lexis, decides}
+use Rattle.hs_front.specs.Written.{Rule, AFile, rules, F, up_to, local, prim, addend, sum, param, next_param, params, assigned, mutable, binding, visibility, title, opening}
 use Rattle.hs_front.specs.Reading.{more, behind_name, numeric, body_read, file_read, grammar, tables}
 use Rattle.hs_front.specs.UpTo.{up_to_empty, up_to_begins, up_to_goes_on, up_to_fits, disjoint-none, disjoint-append, disjoint-cond}
 
@@ -27,7 +27,7 @@ next_param_full = refl
 
 addend_fits : Fits tables addend
 unfolding addend prim local
-addend_fits = fits_by lexis rules tells tables addend refl
+addend_fits = fits_by lexis rules decides tables addend refl
 
 addend_ends : (zs : List K) → disjoint lexis (go_on tables addend) zs ≡ true
 unfolding addend prim local
@@ -39,7 +39,7 @@ next_ends zs = refl
 
 next_fits : Fits tables next_param
 unfolding next_param param local
-next_fits = fits_by lexis rules tells tables next_param refl
+next_fits = fits_by lexis rules decides tables next_param refl
 
 -- ---- sums
 
@@ -66,7 +66,7 @@ prim_ends zs = refl
 
 prim_fits : Fits tables prim
 unfolding prim local
-prim_fits = fits_by lexis rules tells tables prim refl
+prim_fits = fits_by lexis rules decides tables prim refl
 
 sum_fits : Fits tables sum
 unfolding sum more
@@ -88,7 +88,7 @@ param_ends zs = refl
 
 param_fits : Fits tables param
 unfolding param local
-param_fits = fits_by lexis rules tells tables param refl
+param_fits = fits_by lexis rules decides tables param refl
 
 param_begins : disjoint lexis (begin tables param) (RightParenthesis ∷ []) ≡ true
 unfolding param local
@@ -134,7 +134,7 @@ mutable_ends = refl
 
 binding_fits : Fits tables binding
 unfolding binding mutable
-binding_fits = (tt, (fits_by lexis rules tells tables mutable refl, (param_fits, assigned_fits, param_ends (begin tables assigned)), mutable_ends), refl)
+binding_fits = (tt, (fits_by lexis rules decides tables mutable refl, (param_fits, assigned_fits, param_ends (begin tables assigned)), mutable_ends), refl)
 
 numeric_fits : Fits tables numeric
 unfolding numeric
@@ -255,7 +255,7 @@ body_fits (suc n) = (
 
 title_fits : Fits tables title
 unfolding title visibility
-title_fits = fits_by lexis rules tells tables title refl
+title_fits = fits_by lexis rules decides tables title refl
 
 title_ends : (zs : List K) → disjoint lexis (go_on tables title) zs ≡ true
 unfolding title
@@ -263,7 +263,7 @@ title_ends zs = refl
 
 opening_fits : Fits tables opening
 unfolding opening
-opening_fits = fits_by lexis rules tells tables opening refl
+opening_fits = fits_by lexis rules decides tables opening refl
 
 opening_ends : (zs : List K) → disjoint lexis (go_on tables opening) zs ≡ true
 unfolding opening

@@ -15,7 +15,7 @@ use Rattle.hs_front.specs.declared.syntax.File.{File}
 use Rattle.hs_front.specs.declared.parse.Part.{Part}
 use Rattle.hs_front.specs.declared.parse.Part.TheVariants as parts
 use Rattle.hs_front.specs.Lexis.{lexis}
-use Rattle.hs_front.specs.Language.{Rule, AFile, rules, F, up_to, local, addend, sum_of, sum, binding, assigned, only, with_stmt, file_of}
+use Rattle.hs_front.specs.Written.{Rule, AFile, rules, F, up_to, local, addend, sum_of, sum, binding, assigned, only, with_stmt, file_of}
 
 -- behind the name of an assignment: its value, and the rest of the body
 abbrev pub assigns : Sum → Body → Span → Body

@@ -5,7 +5,7 @@ use Rattle.hs_lexer.specs.declared.token.TokenKind.TheVariants as token
 use Rattle.hs_lexer.specs.declared.token.Token.{Token}
 use Rattle.hs_lexer.specs.Places.{spelling_of}
 use Rattle.hs_front.specs.declared.symbol.Symbol.{Symbol}
-use Rattle.hs_front.specs.Words.{kind_of}
+use Rattle.hs_front.specs.Kinds.{kind_of}
 
 -- the value of a number below 2^32, and 0 for any other token
 abbrev pub value_of : TokenKind → ℕ

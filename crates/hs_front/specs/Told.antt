@@ -10,10 +10,10 @@ use Rattle.hs_lexer.specs.declared.token.Token.{Token}
 use Rattle.hs_lexer.specs.Lexes.{Lexes, LexBreak}
 use Rattle.hs_syntax.specs.declared.file.File.{File as Whole}
 use Rattle.hs_forms.specs.Tokens.{tokens_of}
-use Rattle.hs_parser.specs.Told.{IsRead, Tells, NestsTooDeep}
+use Rattle.hs_parser.specs.Told.{IsRead, Diagnosis, NestsTooDeep}
 use Rattle.hs_front.specs.declared.syntax.File.{File}
 use Rattle.hs_front.specs.Symbols.{symbols_of}
-use Rattle.hs_front.specs.Language.{AFile, written}
+use Rattle.hs_front.specs.Written.{AFile, written}
 use Rattle.hs_front.specs.Marks.{Mark, name_marks, type_marks, IsFirst}
 use Rattle.hs_front.specs.Program.{program_from}
 
@@ -68,7 +68,7 @@ ToldBehind text tokens b =
 -- this is told of the tokens: what breaks the whole language's grammar, or a limit that its file passes; or else what the
 -- first language tells of them
 abbrev pub ToldTokens : List ℕ → List Token → Broken → Type 0
-ToldTokens text tokens b = Tells text tokens b ⊎ (IsWhole text tokens × ToldBehind text tokens b)
+ToldTokens text tokens b = Diagnosis text tokens b ⊎ (IsWhole text tokens × ToldBehind text tokens b)
 
 -- this is told of the text: what breaks its tokens, or else what is told of these
 abbrev pub Told : List ℕ → Broken → Type 0

@@ -4,7 +4,7 @@ use Rattle.std.proofs.lemmas.Bool.{false≢true}
 use Rattle.hs_grammar.specs.Kinds.{disjoint, has}
 use Rattle.hs_grammar.specs.Lookahead.{Fits, empty, begin, go_on}
 use Rattle.hs_front.specs.Lexis.{lexis}
-use Rattle.hs_front.specs.Language.{F, up_to}
+use Rattle.hs_front.specs.Written.{F, up_to}
 use Rattle.hs_front.specs.Reading.{tables}
 
 abbrev K : Type 0

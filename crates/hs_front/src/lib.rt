@@ -2,6 +2,7 @@
 #![tactic(auto)]
 
 pub mod check;
+mod kinds;
 mod parse;
 mod resolve;
 mod scope;
@@ -9,4 +10,3 @@ mod symbol;
 mod syntax;
 #[cfg(test)]
 mod tests;
-mod words;

@@ -8,7 +8,7 @@ ghost use Rattle.hs_grammar.specs.Whole.{Parses, Only};
 ghost use Rattle.hs_grammar.specs.Kinds.{starts};
 ghost use Rattle.hs_grammar.specs.Lookahead.{begin};
 ghost use Rattle.hs_front.specs.Lexis.{lexis};
-ghost use Rattle.hs_front.specs.Language.{up_to, AFile, written, local, prim, addend, sum, param, next_param, params, assigned, mutable, binding, visibility, title, opening};
+ghost use Rattle.hs_front.specs.Written.{up_to, AFile, written, local, prim, addend, sum, param, next_param, params, assigned, mutable, binding, visibility, title, opening};
 ghost use Rattle.hs_front.specs.Reading.{grammar, tables, more, behind, step, body_read, file_read, reads};
 
 use crate::symbol::{Kind, Symbol};
@@ -25,14 +25,14 @@ pub struct Language;
 
 impl Grammar for Language {
     ghost use Rattle.hs_front.specs.Lexis as l;
-    ghost use Rattle.hs_front.specs.Language as w;
+    ghost use Rattle.hs_front.specs.Written as w;
     ghost use Rattle.hs_front.specs.Reading as r;
     ghost use Rattle.hs_front.specs.Lookahead as f;
     ghost use Rattle.hs_front.specs.Agree as a;
 
     ghost lexis = { l.lexis };
 
-    ghost tells = { l.tells };
+    ghost decides = { l.decides };
 
     ghost rules = { w.rules };
 
@@ -57,7 +57,7 @@ const MOST_PLUS: usize = 61;
 const MOST_STATEMENTS: usize = 1024;
 
 /// NAME, which for a local may be a built-in one
-#[tactic(auto, unfolding(crate::specs::Language::local))]
+#[tactic(auto, unfolding(crate::specs::Written::local))]
 fn local(tokens: &mut Tokens<'_, Symbol>) -> Result<Span, ParseError>
     ensures { Reads (reads local tokens.old) result tokens.new }
 {
@@ -66,7 +66,7 @@ fn local(tokens: &mut Tokens<'_, Symbol>) -> Result<Span, ParseError>
 }
 
 /// Whether the next token is the name of a local.
-#[tactic(auto, unfolding(crate::specs::Language::local))]
+#[tactic(auto, unfolding(crate::specs::Written::local))]
 fn is_at_local(tokens: &Tokens<'_, Symbol>) -> bool
     ensures { result ≡ starts lexis (begin tables local) tokens.now }
 {
@@ -74,7 +74,7 @@ fn is_at_local(tokens: &Tokens<'_, Symbol>) -> bool
 }
 
 /// Prim ::= NAME | INT
-#[tactic(auto, unfolding(crate::specs::Language::prim, crate::specs::Language::local))]
+#[tactic(auto, unfolding(crate::specs::Written::prim, crate::specs::Written::local))]
 fn prim(tokens: &mut Tokens<'_, Symbol>) -> Result<Prim, ParseError>
     ensures { Reads (reads prim tokens.old) result tokens.new }
 {
@@ -85,7 +85,7 @@ fn prim(tokens: &mut Tokens<'_, Symbol>) -> Result<Prim, ParseError>
 }
 
 /// '+' Prim
-#[tactic(auto, unfolding(crate::specs::Language::addend))]
+#[tactic(auto, unfolding(crate::specs::Written::addend))]
 fn addend(tokens: &mut Tokens<'_, Symbol>) -> Result<Prim, ParseError>
     ensures { Reads (reads addend tokens.old) result tokens.new }
 {
@@ -105,7 +105,7 @@ fn more(alloc: Global, tokens: &mut Tokens<'_, Symbol>) -> Result<Items<Prim>, P
 }
 
 /// Sum ::= Prim ('+' Prim)*
-#[tactic(auto, unfolding(crate::specs::Language::sum, crate::specs::Reading::more))]
+#[tactic(auto, unfolding(crate::specs::Written::sum, crate::specs::Reading::more))]
 fn sum(alloc: Global, tokens: &mut Tokens<'_, Symbol>) -> Result<Sum, ParseError>
     ensures { Reads (reads sum tokens.old) result tokens.new }
 {
@@ -115,7 +115,7 @@ fn sum(alloc: Global, tokens: &mut Tokens<'_, Symbol>) -> Result<Sum, ParseError
 }
 
 /// Param ::= NAME ':' 'u32'
-#[tactic(auto, unfolding(crate::specs::Language::param))]
+#[tactic(auto, unfolding(crate::specs::Written::param))]
 fn param(tokens: &mut Tokens<'_, Symbol>) -> Result<Span, ParseError>
     ensures { Reads (reads param tokens.old) result tokens.new }
 {
@@ -126,7 +126,7 @@ fn param(tokens: &mut Tokens<'_, Symbol>) -> Result<Span, ParseError>
 }
 
 /// ',' Param
-#[tactic(auto, unfolding(crate::specs::Language::next_param))]
+#[tactic(auto, unfolding(crate::specs::Written::next_param))]
 fn next_param(tokens: &mut Tokens<'_, Symbol>) -> Result<Span, ParseError>
     ensures { Reads (reads next_param tokens.old) result tokens.new }
 {
@@ -151,7 +151,7 @@ fn next_params(
 }
 
 /// (Param (',' Param)*)?
-#[tactic(auto, unfolding(crate::specs::Language::params, crate::specs::Language::param, crate::specs::Language::local))]
+#[tactic(auto, unfolding(crate::specs::Written::params, crate::specs::Written::param, crate::specs::Written::local))]
 fn params(alloc: Global, tokens: &mut Tokens<'_, Symbol>) -> Result<Items<Span>, ParseError>
     ensures { Reads (reads params tokens.old) result tokens.new }
 {
@@ -163,7 +163,7 @@ fn params(alloc: Global, tokens: &mut Tokens<'_, Symbol>) -> Result<Items<Span>,
 }
 
 /// '=' Sum ';'
-#[tactic(auto, unfolding(crate::specs::Language::assigned))]
+#[tactic(auto, unfolding(crate::specs::Written::assigned))]
 fn assigned(alloc: Global, tokens: &mut Tokens<'_, Symbol>) -> Result<Sum, ParseError>
     ensures { Reads (reads assigned tokens.old) result tokens.new }
 {
@@ -174,7 +174,7 @@ fn assigned(alloc: Global, tokens: &mut Tokens<'_, Symbol>) -> Result<Sum, Parse
 }
 
 /// 'mut'?
-#[tactic(auto, unfolding(crate::specs::Language::mutable))]
+#[tactic(auto, unfolding(crate::specs::Written::mutable))]
 fn mutable(tokens: &mut Tokens<'_, Symbol>) -> Result<bool, ParseError>
     ensures { Reads (reads mutable tokens.old) result tokens.new }
 {
@@ -186,7 +186,7 @@ fn mutable(tokens: &mut Tokens<'_, Symbol>) -> Result<bool, ParseError>
 }
 
 /// 'let' 'mut'? NAME ':' 'u32' '=' Sum ';'
-#[tactic(auto, unfolding(crate::specs::Language::binding))]
+#[tactic(auto, unfolding(crate::specs::Written::binding))]
 fn binding(alloc: Global, tokens: &mut Tokens<'_, Symbol>) -> Result<Stmt, ParseError>
     ensures { Reads (reads binding tokens.old) result tokens.new }
 {
@@ -207,7 +207,7 @@ pub enum Part {
 }
 
 /// What follows a name: '=' Sum ';' | ('+' Prim)*
-#[tactic(auto, unfolding(crate::specs::Reading::behind, crate::specs::Language::assigned))]
+#[tactic(auto, unfolding(crate::specs::Reading::behind, crate::specs::Written::assigned))]
 fn behind(alloc: Global, tokens: &mut Tokens<'_, Symbol>, name: Span) -> Result<Part, ParseError>
     ensures { Reads (giving (λ f. f name) (reads behind tokens.old)) result tokens.new }
 {
@@ -220,7 +220,7 @@ fn behind(alloc: Global, tokens: &mut Tokens<'_, Symbol>, name: Span) -> Result<
 }
 
 /// Stmt | Sum
-#[tactic(auto, unfolding(crate::specs::Reading::step, crate::specs::Language::local, crate::specs::Language::binding))]
+#[tactic(auto, unfolding(crate::specs::Reading::step, crate::specs::Written::local, crate::specs::Written::binding))]
 fn step(alloc: Global, tokens: &mut Tokens<'_, Symbol>) -> Result<Part, ParseError>
     ensures { Reads (reads step tokens.old) result tokens.new }
 {
@@ -252,7 +252,7 @@ fn body(alloc: Global, tokens: &mut Tokens<'_, Symbol>) -> Result<Body, ParseErr
 }
 
 /// 'pub'?
-#[tactic(auto, unfolding(crate::specs::Language::visibility))]
+#[tactic(auto, unfolding(crate::specs::Written::visibility))]
 fn visibility(tokens: &mut Tokens<'_, Symbol>) -> Result<(), ParseError>
     ensures { Reads (reads visibility tokens.old) result tokens.new }
 {
@@ -263,7 +263,7 @@ fn visibility(tokens: &mut Tokens<'_, Symbol>) -> Result<(), ParseError>
 }
 
 /// 'pub'? 'fn' NAME '('
-#[tactic(auto, unfolding(crate::specs::Language::title))]
+#[tactic(auto, unfolding(crate::specs::Written::title))]
 fn title(tokens: &mut Tokens<'_, Symbol>) -> Result<Span, ParseError>
     ensures { Reads (reads title tokens.old) result tokens.new }
 {
@@ -275,7 +275,7 @@ fn title(tokens: &mut Tokens<'_, Symbol>) -> Result<Span, ParseError>
 }
 
 /// ')' '->' 'u32' '{'
-#[tactic(auto, unfolding(crate::specs::Language::opening))]
+#[tactic(auto, unfolding(crate::specs::Written::opening))]
 fn opening(tokens: &mut Tokens<'_, Symbol>) -> Result<(), ParseError>
     ensures { Reads (reads opening tokens.old) result tokens.new }
 {

@@ -14,9 +14,9 @@ ghost use Rattle.hs_front.specs.Walk.{known, prim_walk, sum_walk, stmt_walk, stm
 use crate::scope::{Found, Scope};
 use crate::syntax;
 use crate::syntax::{File, Prim, Span, Sum};
-use crate::words::spelling;
 use hs_base::memory::NoMemory;
 use hs_base::name::Name;
+use hs_base::parts::between;
 use hs_base::place::Broken;
 use hs_base::rule::Rule;
 use hs_parser::ParseStop;
@@ -70,7 +70,7 @@ impl<'t> Resolver<'t> {
     fn text_of(&self, name: Span) -> &'t [u8]
         ensures { result.now ≡ text_at self.now.text.now name }
     {
-        spelling(self.text, name.start, name.end)
+        between(self.text, name.start, name.end)
     }
 
     /// That the name breaks the rule.

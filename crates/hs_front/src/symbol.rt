@@ -3,9 +3,10 @@
 ghost use Rattle.std.specs.Prelude.{◌≡◌, IfOk, map};
 ghost use Rattle.hs_front.specs.Symbols.{symbol_of, value_of};
 
+use crate::kinds::kind_of;
 use crate::syntax::Span;
-use crate::words::{kind_of, spelling};
 use hs_base::memory::NoMemory;
+use hs_base::parts::between;
 use hs_grammar::cursor::Lexeme;
 use hs_lexer::{Token, TokenKind};
 use sqlite_items::Items;
@@ -91,7 +92,7 @@ fn read_as(text: &[u8], token: Token) -> Symbol
     ensures { result ≡ symbol_of text.now token }
 {
     Symbol {
-        kind: kind_of(token.kind, spelling(text, token.start, token.end)),
+        kind: kind_of(token.kind, between(text, token.start, token.end)),
         span: Span {
             start: token.start,
             end: token.end,

@@ -1,7 +1,7 @@
 //! Which texts are accepted, the trees of some, and the rule and the place that are told of others.
 
 use crate::check::check;
-use crate::words::spelling;
+use hs_base::parts::between;
 use hs_base::place::{Broken, Pos};
 use hs_base::rule::Rule;
 use hs_lexer::{Token, lex};
@@ -339,7 +339,7 @@ fn a_cut_file_ends_too_early(rt: HostRuntime) -> Result<(), Fail> {
 fn commented(alloc: Global, text: &[u8], tokens: &[Token]) -> Result<Vec<u8>, AllocError> {
     let mut all = Vec::new(alloc);
     for token in tokens {
-        all.extend_from_slice(spelling(text, token.start, token.end))?;
+        all.extend_from_slice(between(text, token.start, token.end))?;
         all.extend_from_slice(b"/* /* a */ b\n*/// c\n")?;
     }
     Ok(all)

@@ -2,7 +2,7 @@
 use Rattle.std.proofs.Common.{◌≡◌, ℕ, zero, suc, Bool, true, false, ◌&&◌, ◌||◌, cond, List, [], ◌∷◌, ◌++◌, Option, Some, None, ◌⊎◌, inl, inr, length, refl, sym, ap, ◌∙◌, subst, append_assoc, append-nil, ◌<◌, arith, length-append}
 use Rattle.std.proofs.lemmas.Bool.{both_ways, and_from, or_left, or_right}
 use Rattle.hs_grammar.specs.Form.{Lexis, Rules, Step, More, Last, Form, Pure, Tok, Nt, Map, Seq, Split, Alt, Loop, Unless}
-use Rattle.hs_grammar.specs.Kinds.{Tells, has, disjoint, within, starts}
+use Rattle.hs_grammar.specs.Kinds.{Decides, has, disjoint, within, starts}
 use Rattle.hs_grammar.specs.Derives.{Language, Derivings, Beginnings, Turns, Where, Derives, Begun}
 use Rattle.hs_grammar.specs.Lookahead.{Tables, empty, begin, go_on, NoEmpty, GoesOn, IsMore, Fits}
 use Rattle.hs_grammar.specs.Parser.{Res, Done, Stop, Deep, and_then, giving, token_of, turn, turns, looped, Parsers, parse}
@@ -44,7 +44,7 @@ both false f g i j = g refl i j
 cond_parts : (L : Lexis) (b : Bool) (xs : List L.kind) (k : L.kind) → b ≡ true → has L xs k ≡ true → has L (cond b xs []) k ≡ true
 cond_parts L b xs k e h = rw e h
 
-module _ (L : Lexis) (K : Tells L) where
+module _ (L : Lexis) (K : Decides L) where
   starts-left : (xs ys : List L.kind) (v : List L.token) → starts L (xs ++ ys) v ≡ false → starts L xs v ≡ false
   starts-left xs ys [] e = refl
   starts-left xs ys (t ∷ v) e = lacks-left L K xs ys (L.kind_of t) e
@@ -61,7 +61,7 @@ module _ (L : Lexis) (K : Tells L) where
   starts-within xs ys [] i e = refl
   starts-within xs ys (t ∷ v) i e = lacks-within L K xs ys (L.kind_of t) i e
 
-module _ (L : Lexis) (R : Rules) (K : Tells L) (τ : Tables L R) (ρ : Derivings L R) (β : Beginnings L R) (p : Parsers L R)
+module _ (L : Lexis) (R : Rules) (K : Decides L) (τ : Tables L R) (ρ : Derivings L R) (β : Beginnings L R) (p : Parsers L R)
     (B : Type 0) (I : Inner B τ ρ β p) where
   -- ---- no token
 

@@ -3,7 +3,7 @@ use Rattle.std.proofs.Common.{◌≡◌, ◌⊎◌, inl, inr, ℕ, zero, suc, �
 use Rattle.std.proofs.lemmas.Bool.{and_parts, and_from, or_right, ltb-true, lt-ltb}
 use Rattle.std.proofs.Math.Nat.{mul-suc, mul-le-mul_left}
 use Rattle.hs_grammar.specs.Form.{Lexis, Rules, Form, Pure, Tok, Nt, Map, Seq, Split, Alt, Loop, Unless, Step, More, Last, Grammar}
-use Rattle.hs_grammar.specs.Kinds.{Tells, has, starts}
+use Rattle.hs_grammar.specs.Kinds.{Decides, has, starts}
 use Rattle.hs_grammar.specs.Lookahead.{Tables, empty, begin, Fits, FitsRule}
 use Rattle.hs_grammar.specs.Depth.{leads_below}
 use Rattle.hs_grammar.specs.Parser.{Res, Done, Stop, Deep, and_then, giving, token_of, turn, turns, looped, parse, parse_by}
@@ -33,7 +33,7 @@ shallow_cond false r s i j = j
 led : (e x : Bool) → e ≡ true → (not e || x) ≡ true → x ≡ true
 led e x i j = subst (λ c. (not c || x) ≡ true) i j
 
-module _ {L : Lexis} {R : Rules} (K : Tells L) (τ : Tables L R) (g : Grammar L R) (fits : (N : R.rule) → FitsRule τ g N) (rank : R.rule → ℕ) (ranks : ℕ) (below : (N : R.rule) → rank N < ranks) where
+module _ {L : Lexis} {R : Rules} (K : Decides L) (τ : Tables L R) (g : Grammar L R) (fits : (N : R.rule) → FitsRule τ g N) (rank : R.rule → ℕ) (ranks : ℕ) (below : (N : R.rule) → rank N < ranks) where
   -- each rule has a rank below their number
   leads_all : {C : Type 0} (f : Form L R C) → leads_below τ rank ranks f ≡ true
   leads_all (Pure c) = refl

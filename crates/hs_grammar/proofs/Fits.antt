@@ -2,17 +2,17 @@
 use Rattle.std.proofs.Common.{◌≡◌, Bool, true, false, not, ◌&&◌, ◌||◌, cond, List, [], ◌∷◌, ◌++◌, ◌⊎◌, inl, inr, refl, ap}
 use Rattle.std.proofs.lemmas.Bool.{both_ways, and_parts, and_from, or_left, or_right, not-true}
 use Rattle.hs_grammar.specs.Form.{Lexis, Rules, Form, Pure, Tok, Nt, Map, Seq, Split, Alt, Loop, Unless}
-use Rattle.hs_grammar.specs.Kinds.{Tells, has, disjoint, within}
+use Rattle.hs_grammar.specs.Kinds.{Decides, has, disjoint, within}
 use Rattle.hs_grammar.specs.Derives.{Where}
 use Rattle.hs_grammar.specs.Lookahead.{Tables, empty, begin, go_on, NoEmpty, GoesOn, IsMore, Fits, fits_test}
-use Rattle.hs_grammar.specs.Words.{list_turn, list_read}
+use Rattle.hs_grammar.specs.Combinators.{list_turn, list_read}
 
 -- neither of two
 pub neither : (a b : Bool) → (a || b) ≡ false → (a ≡ false) × (b ≡ false)
 neither true b e = absurd (both_ways (true || b) e refl)
 neither false b e = (refl, e)
 
-module _ (L : Lexis) (K : Tells L) where
+module _ (L : Lexis) (K : Decides L) where
   within-append : (xs ys zs : List L.kind) → within L (xs ++ ys) zs ≡ true → (within L xs zs ≡ true) × (within L ys zs ≡ true)
   within-append [] ys zs e = (refl, e)
   within-append (x ∷ xs) ys zs e =
@@ -31,7 +31,7 @@ module _ (L : Lexis) (K : Tells L) where
   within-self [] = refl
   within-self (x ∷ xs) = and_from (L.same x x || has L xs x) (within L xs (x ∷ xs)) (or_left (L.same x x) (has L xs x) (K.alike x x refl)) (within_more xs xs x (within-self xs))
 
-module _ (L : Lexis) (R : Rules) (K : Tells L) (τ : Tables L R) where
+module _ (L : Lexis) (R : Rules) (K : Decides L) (τ : Tables L R) where
   -- a form that is never empty derives no value from no token
   pub no_empty_of : {C : Type 0} (P : C → Type 0) (f : Form L R C) → empty τ f ≡ false → NoEmpty τ P f
   no_empty_of P (Pure c) e = absurd (both_ways true e refl)

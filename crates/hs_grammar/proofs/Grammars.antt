@@ -4,7 +4,7 @@ use Rattle.hs_grammar.specs.declared.error.Refusal.{Refusal}
 use Rattle.hs_grammar.specs.declared.error.Refusal.TheVariants as refusals
 use Rattle.hs_grammar.specs.Whole.{StopsAt, Finishes, ParseBreak, Parses, ParsesAll, Only}
 use Rattle.hs_grammar.specs.Form.{Lexis, Rules, Grammar}
-use Rattle.hs_grammar.specs.Kinds.{Tells}
+use Rattle.hs_grammar.specs.Kinds.{Decides}
 use Rattle.hs_grammar.specs.Derives.{DerivesBy, DerivesAs, IsBegun}
 use Rattle.hs_grammar.specs.Break.{Breaks}
 use Rattle.hs_grammar.specs.Lookahead.{Tables, FitsRule}
@@ -15,7 +15,7 @@ use Rattle.hs_grammar.proofs.Heights as whole
 use Rattle.hs_grammar.proofs.Depths.{Shallow, deep_enough}
 use Rattle.hs_grammar.proofs.Same.{derived_to, derives_to, derives_from, breaks_from}
 
-module _ {L : Lexis} {R : Rules} (K : Tells L) (h g : Grammar L R) (each : SameGrammars h g) (τ : Tables L R) (fits : (N : R.rule) → FitsRule τ g N) where
+module _ {L : Lexis} {R : Rules} (K : Decides L) (h g : Grammar L R) (each : SameGrammars h g) (τ : Tables L R) (fits : (N : R.rule) → FitsRule τ g N) where
   answer_of : (N : R.rule) (w : List L.token) (r : Res L.token (R.value N)) → Exact g N w r → Exact h N w r
   answer_of N w (Done x []) e = derives_from h g each N w x e
   answer_of N w (Done x (t ∷ rest)) e = breaks_from h g each N w (t ∷ rest) e

@@ -1,7 +1,7 @@
 -- The theorem on the parser of a grammar.
 use Rattle.std.proofs.Common.{◌≡◌, ℕ, zero, suc, ◌+◌, ◌<◌, ◌≤◌, arith, length-append, List, [], ◌∷◌, ◌++◌, length, refl, sym, ap, ◌∙◌, subst, append_assoc, append-nil}
 use Rattle.hs_grammar.specs.Form.{Lexis, Rules, Grammar}
-use Rattle.hs_grammar.specs.Kinds.{Tells}
+use Rattle.hs_grammar.specs.Kinds.{Decides}
 use Rattle.hs_grammar.specs.Derives.{DerivesBy, BegunBy, DerivesAs}
 use Rattle.hs_grammar.specs.Break.{CannotGoOn, Breaks}
 use Rattle.hs_grammar.specs.Lookahead.{Tables, begin, go_on, FitsRule}
@@ -51,7 +51,7 @@ module _ {L : Lexis} {R : Rules} (τ : Tables L R) (g : Grammar L R) where
       go [] e over = over x (d.0, subst (λ z. DerivesBy g d.0 N z x) (e ∙ append-nil b.before) d.1)
       go (t ∷ r) e over = over (d.0, front_of d.0 N (b.before ++ t ∷ []) r (subst (BegunBy g d.0 N) (e ∙ sym (append_assoc b.before (t ∷ []) r)) (begun_of d.0 N w x d.1)))
 
-module _ {L : Lexis} {R : Rules} (K : Tells L) (τ : Tables L R) (g : Grammar L R) (fits : (N : R.rule) → FitsRule τ g N) where
+module _ {L : Lexis} {R : Rules} (K : Decides L) (τ : Tables L R) (g : Grammar L R) (fits : (N : R.rule) → FitsRule τ g N) where
   -- what holds of the rules at each height
   pub inner : (B : Type 0) (m n : ℕ) → (n < m → B) → Inner B τ (DerivesBy g m) (BegunBy g m) (parse_by τ g n)
   inner B zero n low = record {

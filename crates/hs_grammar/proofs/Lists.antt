@@ -3,7 +3,7 @@ use Rattle.std.proofs.Common.{◌≡◌, List, [], ◌∷◌, ◌++◌, Option, 
 use Rattle.hs_grammar.specs.Form.{Lexis, Rules, Step, More, Last, Form, Map, Seq, Loop}
 use Rattle.hs_grammar.specs.Derives.{Derivings, Beginnings, Turns, Derives, Begun}
 use Rattle.hs_grammar.specs.Same.{Same, Sane}
-use Rattle.hs_grammar.specs.Words.{item, star, optional, ◌>>◌, list, list_turn, list_read}
+use Rattle.hs_grammar.specs.Combinators.{item, star, optional, ◌>>◌, list, list_turn, list_read}
 use Rattle.hs_grammar.proofs.Exact.{begun_nothing}
 use Rattle.hs_grammar.proofs.Same.{same, same_seq, same_trans}
 

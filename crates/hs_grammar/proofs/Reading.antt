@@ -3,12 +3,12 @@ use Rattle.std.proofs.Common.{◌≡◌, ℕ, ◌<◌, false, List, [], ◌∷�
 use Rattle.hs_grammar.specs.declared.error.ParseError.{ParseError}
 use Rattle.hs_grammar.specs.declared.error.ParseError.TheVariants as errors
 use Rattle.hs_grammar.specs.Form.{Lexis, Rules, Form, Loop, Step, More, Grammar}
-use Rattle.hs_grammar.specs.Kinds.{Tells, starts}
+use Rattle.hs_grammar.specs.Kinds.{Decides, starts}
 use Rattle.hs_grammar.specs.Lookahead.{Tables, empty, begin, FitsRule}
 use Rattle.hs_grammar.specs.Parser.{Res, Done, Stop, Deep, and_then, giving, looped}
 use Rattle.hs_grammar.specs.Reads.{Reads, read}
 use Rattle.hs_grammar.specs.Repeat.{repeated, Advances}
-use Rattle.hs_grammar.specs.Words.{star, chain, list_turn, list_read}
+use Rattle.hs_grammar.specs.Combinators.{star, chain, list_turn, list_read}
 use Rattle.hs_grammar.proofs.Unrolls.{consumes}
 use Rattle.hs_grammar.specs.Until.{repeated_until, TurnsAdvance, turn_of, pushed, kept}
 use Rattle.hs_grammar.proofs.Repeats.{fold-looped}
@@ -49,7 +49,7 @@ pub fold-pushed : {A : Type 0} (l as' : List A) → fold pushed l as' ≡ l ++ a
 fold-pushed l [] = sym (append-nil l)
 fold-pushed l (a ∷ as') = fold-pushed (pushed l a) as' ∙ append_assoc l (a ∷ []) as'
 
-module _ {L : Lexis} {R : Rules} (K : Tells L) (τ : Tables L R) (g : Grammar L R) (fits : (N : R.rule) → FitsRule τ g N) where
+module _ {L : Lexis} {R : Rules} (K : Decides L) (τ : Tables L R) (g : Grammar L R) (fits : (N : R.rule) → FitsRule τ g N) where
   -- a step that folds the value of a form that is never empty takes a token
   pub advances : {A B : Type 0} (n : ℕ) (op : A → B → A) (f : Form L R B) → empty τ f ≡ false → Advances (λ a w. giving (op a) (read τ g n f w))
   advances n op f m a b w r e = let d = giving-done (op a) (read τ g n f w) b r e in consumes K τ g fits n f m w r d.0 d.1

@@ -2,7 +2,7 @@
 use Rattle.std.proofs.Common.{◌≡◌, Bool, true, false, not, cond, List, [], ◌∷◌, ◌++◌, inl, inr, refl, subst}
 use Rattle.std.proofs.lemmas.Bool.{both_ways, and_parts, or_cases, or_left, or_right, not-true}
 use Rattle.hs_grammar.specs.Form.{Lexis}
-use Rattle.hs_grammar.specs.Kinds.{Tells, has, disjoint, within, without}
+use Rattle.hs_grammar.specs.Kinds.{Decides, has, disjoint, within, without}
 
 -- what is in neither of two ways
 pub not_true : (b : Bool) → (b ≡ true → ⊥) → b ≡ false
@@ -13,7 +13,7 @@ not_true false f = refl
 pub has_along : (L : Lexis) (xs : List L.kind) (j k : L.kind) → j ≡ k → has L xs j ≡ true → has L xs k ≡ true
 has_along L xs j k e h = subst (λ i. has L xs i ≡ true) e h
 
-module _ (L : Lexis) (K : Tells L) where
+module _ (L : Lexis) (K : Decides L) where
   -- what is in a set is in none that is disjoint from it
   pub has-disjoint : (xs ys : List L.kind) (k : L.kind) → disjoint L xs ys ≡ true → has L xs k ≡ true → has L ys k ≡ false
   has-disjoint [] ys k d h = absurd (both_ways false refl h)

@@ -2,7 +2,7 @@
 use Rattle.std.proofs.Common.{◌≡◌, ℕ, zero, suc, ◌<◌, ◌≤◌, arith, length-append, Bool, false, cond, List, [], ◌∷◌, ◌++◌, Option, None, length, refl, ap, subst}
 use Rattle.std.proofs.lemmas.Bool.{both_ways}
 use Rattle.hs_grammar.specs.Form.{Lexis, Rules, Form, Step, More, Last, Grammar}
-use Rattle.hs_grammar.specs.Kinds.{Tells}
+use Rattle.hs_grammar.specs.Kinds.{Decides}
 use Rattle.hs_grammar.specs.Derives.{Derives, Begun, DerivesBy, BegunBy}
 use Rattle.hs_grammar.specs.Lookahead.{Tables, empty, FitsRule}
 use Rattle.hs_grammar.specs.Parser.{Res, Done, Stop, Deep, and_then, turn, turns, looped, parse, parse_by}
@@ -50,7 +50,7 @@ module _ {L : Lexis} {R : Rules} (τ : Tables L R) (g : Grammar L R) where
       let same : length w ≡ length (s.0 ++ r) = ap length s.1 in
       omega (arith, same, length-append s.0 r)
 
-module _ {L : Lexis} {R : Rules} (K : Tells L) (τ : Tables L R) (g : Grammar L R) (fits : (N : R.rule) → FitsRule τ g N) where
+module _ {L : Lexis} {R : Rules} (K : Decides L) (τ : Tables L R) (g : Grammar L R) (fits : (N : R.rule) → FitsRule τ g N) where
   -- a form that is never empty takes a token
   pub consumes : {A : Type 0} (n : ℕ) (f : Form L R A) → empty τ f ≡ false → Consumes (parse τ (parse_by τ g n) f)
   consumes {A} n f m w r x e = go (shorter_of τ g n f w r x e)

@@ -3,7 +3,7 @@ use Rattle.std.specs.Prelude.{◌≡◌, Bool, true, false, not, ◌&&◌, ◌||
 use Rattle.hs_grammar.specs.Form.{Lexis}
 
 -- the test of kinds tells exactly whether they are one
-pub record Tells (L : Lexis) : Type 0 where
+pub record Decides (L : Lexis) : Type 0 where
   pub one : (a b : L.kind) → L.same a b ≡ true → a ≡ b
   pub alike : (a b : L.kind) → a ≡ b → L.same a b ≡ true
 

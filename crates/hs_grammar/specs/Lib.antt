@@ -6,7 +6,7 @@ pub mod Lookahead
 pub mod Depth
 pub mod Parser
 pub mod Same
-pub mod Words
+pub mod Combinators
 pub mod Reads
 pub mod Repeat
 pub mod Until

@@ -2,7 +2,7 @@
 use Rattle.std.specs.Prelude.{ℕ, ◌==◌, Bool, false, List, [], ◌∷◌, Option, Some, None, sum}
 use Rattle.hs_grammar.specs.Form.{Lexis, Rules, Form, Tok, Alt, Map, Grammar, lexis_of, rules_of}
 use Rattle.hs_grammar.specs.Lookahead.{Tables}
-use Rattle.hs_grammar.specs.Words.{word, rule, ◌>>◌, ◌<<◌, optional, list, list_read}
+use Rattle.hs_grammar.specs.Combinators.{word, rule, ◌>>◌, ◌<<◌, optional, list, list_read}
 
 -- the tokens, which are their own kinds
 pub data Sign : Type 0 where

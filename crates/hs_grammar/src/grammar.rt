@@ -2,7 +2,7 @@
 
 ghost use Rattle.std.specs.Prelude.{◌≡◌, ℕ, ◌+◌, ◌*◌, ◌<◌, ◌≤◌, List, [], ◌++◌, length, Result};
 ghost use Rattle.hs_grammar.specs.Form.{Lexis, Rules, Grammar as GrammarOf};
-ghost use Rattle.hs_grammar.specs.Kinds.{Tells};
+ghost use Rattle.hs_grammar.specs.Kinds.{Decides};
 ghost use Rattle.hs_grammar.specs.Derives.{DerivesBy, DerivesAs, IsBegun};
 ghost use Rattle.hs_grammar.specs.Break.{Breaks};
 ghost use Rattle.hs_grammar.specs.Lookahead.{Tables, FitsRule};
@@ -18,7 +18,7 @@ pub trait Grammar {
     ghost lexis: { Lexis };
 
     /// The test of kinds is exact.
-    ghost tells: { Tells lexis };
+    ghost decides: { Decides lexis };
 
     /// The names of the rules, and what each gives.
     ghost rules: { Rules };

@@ -4,7 +4,7 @@ use Rattle.hs_marks.specs.declared.breach.Breach.{Breach}
 use Rattle.hs_marks.specs.Marked as m
 use Rattle.hs_marks.specs.First.{or_else, or_own}
 use Rattle.hs_limits.specs.Outline.{Outline, Node, none, join, node, counted, through, apart, one, chain, height}
-use Rattle.hs_limits.specs.Told.{broken, marked}
+use Rattle.hs_limits.specs.Breaks.{broken, marked}
 use Rattle.hs_limits.specs.Walk.{high, walked, first_in, first_high, high_chain, first_chain, reach}
 
 -- the height on the way is the greater of the one before and the row's

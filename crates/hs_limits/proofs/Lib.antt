@@ -3,4 +3,4 @@ pub mod First
 pub mod Heights
 pub mod Order
 pub mod Steps
-pub mod Words
+pub mod Names

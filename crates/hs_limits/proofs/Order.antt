@@ -4,7 +4,7 @@ use Rattle.hs_base.specs.declared.rule.Rule.TheVariants.{S2}
 use Rattle.hs_marks.specs.Told.{Lies, Rising, RisesFrom}
 use Rattle.hs_limits.specs.Outline.{Outline, Kind, Surplus, none, join, node, counted, through, apart, parameter, statement, part, height}
 use Rattle.hs_limits.specs.Nested.{Nested}
-use Rattle.hs_limits.specs.Told.{broken, marked, too_many}
+use Rattle.hs_limits.specs.Breaks.{broken, marked, too_many}
 
 pub lies : (o : Outline) (low high : ℕ) → Nested o low high → Lies (marked o) low high
 lies none low high h = h

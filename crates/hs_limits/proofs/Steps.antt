@@ -5,7 +5,7 @@ use Rattle.hs_syntax.specs.declared.span.Span.{Span}
 use Rattle.hs_marks.specs.declared.breach.Breach.{Breach}
 use Rattle.hs_marks.specs.First.{or_else, or_own, breach}
 use Rattle.hs_limits.specs.Outline.{Outline, Node, Surplus, none, join, node, parameter, statement, part, one, all, numbered, rise}
-use Rattle.hs_limits.specs.Told.{broken, too_high, too_many}
+use Rattle.hs_limits.specs.Breaks.{broken, too_high, too_many}
 use Rattle.hs_limits.specs.Walk.{first_high, high, first_in, first_chain, high_chain, reach, is_limit, listed}
 
 -- the nodes that are left, from number i on

@@ -2,5 +2,5 @@ pub mod Nested
 pub mod Nodes
 pub mod Outline
 pub mod Spans
-pub mod Told
+pub mod Breaks
 pub mod Walk

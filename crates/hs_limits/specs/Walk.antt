@@ -7,7 +7,7 @@ use Rattle.hs_marks.specs.Marked.{Marked}
 use Rattle.hs_marks.specs.First.{first, breach, or_else}
 use Rattle.hs_marks.specs.Says.{Says}
 use Rattle.hs_limits.specs.Outline.{Outline, Node, Surplus, none, join, node, counted, through, apart, one, all, upto}
-use Rattle.hs_limits.specs.Told.{broken}
+use Rattle.hs_limits.specs.Breaks.{broken}
 
 -- the greater of a height and those of a row
 abbrev pub high : Outline → ℕ → ℕ

@@ -7,7 +7,7 @@ ghost use Rattle.hs_marks.specs.Told.{Answers, Told};
 ghost use Rattle.hs_limits.specs.Outline.{one, all, upto, part, parameter};
 ghost use Rattle.hs_limits.specs.Nested.{NestedFile};
 ghost use Rattle.hs_limits.specs.Nodes.{kind_outline, node_of_item, node_of_ctor, node_of_param};
-ghost use Rattle.hs_limits.specs.Told.{HeightsAgree, marks_of};
+ghost use Rattle.hs_limits.specs.Breaks.{HeightsAgree, marks_of};
 ghost use Rattle.hs_limits.specs.Walk.{first_in};
 
 use crate::flat::{PARTS, is_past, optional_type, ty, tys};
@@ -61,7 +61,7 @@ pub fn items(items: &Items<Item>) -> Result<(), Breach>
 }
 
 /// Looks over an item.
-#[tactic(auto, using(crate::proofs::Words::no_name))]
+#[tactic(auto, using(crate::proofs::Names::no_name))]
 fn item(item: &Item) -> Result<(), Breach>
     ensures { SaysNone (first_in (one (node_of_item item.now))) result }
 {

@@ -5,7 +5,7 @@ ghost use Rattle.hs_marks.specs.declared.breach.Breach.{Breach};
 ghost use Rattle.hs_marks.specs.Told.{Told};
 ghost use Rattle.hs_syntax.specs.declared.file.File.{File};
 ghost use Rattle.hs_limits.specs.Nested.{NestedFile};
-ghost use Rattle.hs_limits.specs.Told.{marks_of};
+ghost use Rattle.hs_limits.specs.Breaks.{marks_of};
 
 use hs_marks::first_is_told;
 

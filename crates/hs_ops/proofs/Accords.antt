@@ -27,13 +27,13 @@ use Rattle.hs_ops.specs.declared.row.Kind.TheVariants as kind
 use Rattle.hs_ops.specs.declared.row.OpRow.{OpRow}
 use Rattle.hs_ops.specs.declared.row.OpStop.{OpStop}
 use Rattle.hs_ops.specs.declared.row.OpStop.TheVariants as stop
-use Rattle.hs_ops.specs.Answer.{Answer, Is, Fails, Misfit, size as size_value, row, number, given, settle, one_of, two_of, three_of, four_of, unary, binary, ternary, quaternary, Tells}
+use Rattle.hs_ops.specs.Answer.{Answer, Is, Fails, Misfit, size_value, row, number, given, settle, one_of, two_of, three_of, four_of, unary, binary, ternary, quaternary, Tells}
 use Rattle.hs_ops.specs.Views.{any, as_bool, as_int, as_size, as_row, as_bytes, bits_in, consed, as_tuple, as_option, as_result, bool_in, int_in, row_in, row_bits, tuple_in}
 use Rattle.hs_ops.specs.Numbers.{from_bytes, bits_from, bytes_of, byte_row}
 use Rattle.hs_ops.specs.Rows.{bounded, written, put_at, found, chunk_length, in_chunk}
 use Rattle.hs_ops.specs.Parts.{part_at, opened, good_part}
 use Rattle.hs_ops.specs.Op.{public_of, byte_of, number_answer, single_answer, answer}
-use Rattle.hs_ops.specs.Row.{has_kind, size, result_of, panics_of, number_result, number_panics, exact_panics, quotient_panics, single_result, single_panics, is_among, row_of, Promised}
+use Rattle.hs_ops.specs.Row.{has_kind, size_kind, result_of, panics_of, number_result, number_panics, exact_panics, quotient_panics, single_result, single_panics, is_among, row_of, Promised}
 
 -- a value is of the kind, and a panic is one of these
 abbrev accords : Kind → List Panic → Answer → Bool
@@ -221,7 +221,7 @@ single_accords Concat args = binary_accords as_row as_row _ (single_result Conca
 single_accords Push args = binary_accords as_row any _ (single_result Push) (single_panics Push) (λ v w a x e g. bounded_accords (length a + 1) (a ++ x ∷ [])) args
 single_accords Slice args = ternary_accords as_row as_size as_size _ (single_result Slice) (single_panics Slice) (λ v w x a i n e g h. choice_accords (leb (i + n) (length a)) (row (take n (drop i a))) (Fails Index) (single_result Slice) (single_panics Slice) (has_row _) refl) args
 single_accords Put args = ternary_accords as_row as_size as_row _ (single_result Put) (single_panics Put) (λ v w x a i b e g h. choice_accords (leb (i + length b) (length a)) (row (written a i b)) (Fails Index) (single_result Put) (single_panics Put) (has_row _) refl) args
-single_accords NumChunks args = binary_accords as_row as_size _ (single_result NumChunks) (single_panics NumChunks) (λ v w a n e g. choice_accords (eqb n 0) (Fails Division) (Is (size_value (div_ceil (length a) n))) size (Division ∷ []) refl (own_kind PUsize _ refl)) args
+single_accords NumChunks args = binary_accords as_row as_size _ (single_result NumChunks) (single_panics NumChunks) (λ v w a n e g. choice_accords (eqb n 0) (Fails Division) (Is (size_value (div_ceil (length a) n))) size_kind (Division ∷ []) refl (own_kind PUsize _ refl)) args
 single_accords GetChunk args = ternary_accords as_row as_size as_size _ (single_result GetChunk) (single_panics GetChunk) (λ v w x a n i e g h. chunk_accords (length a) n i (λ count. Is (value.Tuple (size_value count ∷ value.Seq (take count (drop (i * n) a)) ∷ []))) (kind.Tuple 2) (Division ∷ Index ∷ []) refl refl (λ count. has_tuple 2 _ refl)) args
 single_accords SetChunk args = quaternary_accords as_row as_size as_size as_row _ kind.Row (Division ∷ Index ∷ Length ∷ []) (λ v w x y a n i b e g h j. chunk_accords (length a) n i (λ count. if eqb (length b) count then put_at a (i * n) b else Fails Length) kind.Row (Division ∷ Index ∷ Length ∷ []) refl refl (λ count. choice_accords (eqb (length b) count) (put_at a (i * n) b) (Fails Length) kind.Row (Division ∷ Index ∷ Length ∷ []) (choice_accords (leb (i * n + length b) (length a)) (row (written a (i * n) b)) (Fails Index) kind.Row (Division ∷ Index ∷ Length ∷ []) (has_row _) refl) refl)) args
 single_accords ToArray args = binary_accords as_size as_row _ (single_result ToArray) (single_panics ToArray) (λ v w n s e g. choice_accords (eqb (length s) n) (row s) (Fails Length) (single_result ToArray) (single_panics ToArray) (has_row _) refl) args

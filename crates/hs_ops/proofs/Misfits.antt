@@ -23,14 +23,14 @@ use Rattle.hs_ops.specs.declared.row.Kind.{Kind}
 use Rattle.hs_ops.specs.declared.row.Kind.TheVariants as kind
 use Rattle.hs_ops.specs.declared.row.OpStop.{OpStop}
 use Rattle.hs_ops.specs.declared.row.OpStop.TheVariants as stop
-use Rattle.hs_ops.specs.Answer.{Answer, Is, Fails, Misfit, size as size_value, row, number, given, settle, unary, binary, ternary, quaternary, Tells}
+use Rattle.hs_ops.specs.Answer.{Answer, Is, Fails, Misfit, size_value, row, number, given, settle, unary, binary, ternary, quaternary, Tells}
 use Rattle.hs_ops.specs.Views.{any, as_bool, as_int, as_size, as_row, as_bytes, as_tuple, as_option, as_result, tuple_in}
 use Rattle.hs_ops.specs.Numbers.{from_bytes, bits_from}
 use Rattle.hs_ops.specs.Rows.{bounded, written, put_at, found, chunk_length, in_chunk}
 use Rattle.hs_ops.specs.Parts.{part_at, opened, good_part}
 use Rattle.hs_ops.specs.Known.{is_known}
 use Rattle.hs_ops.specs.Op.{public_of, byte_of, number_answer, single_answer, answer}
-use Rattle.hs_ops.specs.Row.{has_kind, each_has, have_kinds, size, args_of, number_args, single_args, ForKinds}
+use Rattle.hs_ops.specs.Row.{has_kind, each_has, have_kinds, size_kind, args_of, number_args, single_args, ForKinds}
 
 abbrev is_misfit : Answer → Bool
 is_misfit (Is v) = false
@@ -74,7 +74,7 @@ mapped_some : {A B : Type 0} → (f : A → B) (o : Option A) → is_some o ≡ 
 mapped_some f None = refl
 mapped_some f (Some a) = refl
 
-size_viewed : (v : Value) → has_kind size v ≡ is_some (as_size v)
+size_viewed : (v : Value) → has_kind size_kind v ≡ is_some (as_size v)
 size_viewed v = mapped_some _ _
 
 module _ {A : Type 0} where
@@ -150,10 +150,10 @@ number_misfits And k args = binary_misfits (as_int k) (as_int k) _ (kind.Int k) 
 number_misfits Or k args = binary_misfits (as_int k) (as_int k) _ (kind.Int k) (kind.Int k) (λ v. refl) (λ v. refl) (λ a b. refl) args
 number_misfits Xor k args = binary_misfits (as_int k) (as_int k) _ (kind.Int k) (kind.Int k) (λ v. refl) (λ v. refl) (λ a b. refl) args
 number_misfits Not k args = unary_misfits (as_int k) _ (kind.Int k) (λ v. refl) (λ a. refl) args
-number_misfits Shl k args = binary_misfits (as_int k) as_size _ (kind.Int k) size (λ v. refl) size_viewed (λ a b. settle_fits _) args
-number_misfits Shr k args = binary_misfits (as_int k) as_size _ (kind.Int k) size (λ v. refl) size_viewed (λ a b. settle_fits _) args
-number_misfits Rotl k args = binary_misfits (as_int k) as_size _ (kind.Int k) size (λ v. refl) size_viewed (λ a b. refl) args
-number_misfits Rotr k args = binary_misfits (as_int k) as_size _ (kind.Int k) size (λ v. refl) size_viewed (λ a b. refl) args
+number_misfits Shl k args = binary_misfits (as_int k) as_size _ (kind.Int k) size_kind (λ v. refl) size_viewed (λ a b. settle_fits _) args
+number_misfits Shr k args = binary_misfits (as_int k) as_size _ (kind.Int k) size_kind (λ v. refl) size_viewed (λ a b. settle_fits _) args
+number_misfits Rotl k args = binary_misfits (as_int k) as_size _ (kind.Int k) size_kind (λ v. refl) size_viewed (λ a b. refl) args
+number_misfits Rotr k args = binary_misfits (as_int k) as_size _ (kind.Int k) size_kind (λ v. refl) size_viewed (λ a b. refl) args
 number_misfits Wadd k args = binary_misfits (as_int k) (as_int k) _ (kind.Int k) (kind.Int k) (λ v. refl) (λ v. refl) (λ a b. refl) args
 number_misfits Wsub k args = binary_misfits (as_int k) (as_int k) _ (kind.Int k) (kind.Int k) (λ v. refl) (λ v. refl) (λ a b. refl) args
 number_misfits Wmul k args = binary_misfits (as_int k) (as_int k) _ (kind.Int k) (kind.Int k) (λ v. refl) (λ v. refl) (λ a b. refl) args
@@ -172,19 +172,19 @@ single_misfits : (o : SingleOp) (args : List Value) → is_misfit (single_answer
 single_misfits BoolNot args = unary_misfits as_bool _ kind.Bool (λ v. refl) (λ a. refl) args
 single_misfits Same args = binary_misfits any any _ kind.Any kind.Any (λ v. refl) (λ v. refl) (λ a b. refl) args
 single_misfits Differ args = binary_misfits any any _ kind.Any kind.Any (λ v. refl) (λ v. refl) (λ a b. refl) args
-single_misfits Item args = binary_misfits as_row as_size _ kind.Row size (λ v. refl) size_viewed (λ a i. found_fits (slice_get a i)) args
-single_misfits Set args = ternary_misfits as_row as_size any _ kind.Row size kind.Any (λ v. refl) size_viewed (λ v. refl) (λ a i x. choice_fits (nat_lt i (length a)) (row (slice_set a i x)) (Fails Index) refl refl) args
+single_misfits Item args = binary_misfits as_row as_size _ kind.Row size_kind (λ v. refl) size_viewed (λ a i. found_fits (slice_get a i)) args
+single_misfits Set args = ternary_misfits as_row as_size any _ kind.Row size_kind kind.Any (λ v. refl) size_viewed (λ v. refl) (λ a i x. choice_fits (nat_lt i (length a)) (row (slice_set a i x)) (Fails Index) refl refl) args
 single_misfits Len args = unary_misfits as_row _ kind.Row (λ v. refl) (λ a. refl) args
-single_misfits Make args = binary_misfits any as_size _ kind.Any size (λ v. refl) size_viewed (λ x n. bounded_fits n (replicate n x)) args
+single_misfits Make args = binary_misfits any as_size _ kind.Any size_kind (λ v. refl) size_viewed (λ x n. bounded_fits n (replicate n x)) args
 single_misfits ListOf args = refl
 single_misfits Concat args = binary_misfits as_row as_row _ kind.Row kind.Row (λ v. refl) (λ v. refl) (λ a b. bounded_fits (length a + length b) (a ++ b)) args
 single_misfits Push args = binary_misfits as_row any _ kind.Row kind.Any (λ v. refl) (λ v. refl) (λ a x. bounded_fits (length a + 1) (a ++ x ∷ [])) args
-single_misfits Slice args = ternary_misfits as_row as_size as_size _ kind.Row size size (λ v. refl) size_viewed size_viewed (λ a i n. choice_fits (leb (i + n) (length a)) (row (take n (drop i a))) (Fails Index) refl refl) args
-single_misfits Put args = ternary_misfits as_row as_size as_row _ kind.Row size kind.Row (λ v. refl) size_viewed (λ v. refl) put_at_fits args
-single_misfits NumChunks args = binary_misfits as_row as_size _ kind.Row size (λ v. refl) size_viewed (λ a n. choice_fits (eqb n 0) (Fails Division) (Is (size_value (div_ceil (length a) n))) refl refl) args
-single_misfits GetChunk args = ternary_misfits as_row as_size as_size _ kind.Row size size (λ v. refl) size_viewed size_viewed (λ a n i. chunk_fits (chunk_length (length a) n i) (λ count. Is (value.Tuple (size_value count ∷ value.Seq (take count (drop (i * n) a)) ∷ []))) (λ count. refl)) args
-single_misfits SetChunk args = quaternary_misfits as_row as_size as_size as_row _ kind.Row size size kind.Row (λ v. refl) size_viewed size_viewed (λ v. refl) (λ a n i b. chunk_fits (chunk_length (length a) n i) (λ count. if eqb (length b) count then put_at a (i * n) b else Fails Length) (λ count. choice_fits (eqb (length b) count) (put_at a (i * n) b) (Fails Length) (put_at_fits a (i * n) b) refl)) args
-single_misfits ToArray args = binary_misfits as_size as_row _ size kind.Row size_viewed (λ v. refl) (λ n s. choice_fits (eqb (length s) n) (row s) (Fails Length) refl refl) args
+single_misfits Slice args = ternary_misfits as_row as_size as_size _ kind.Row size_kind size_kind (λ v. refl) size_viewed size_viewed (λ a i n. choice_fits (leb (i + n) (length a)) (row (take n (drop i a))) (Fails Index) refl refl) args
+single_misfits Put args = ternary_misfits as_row as_size as_row _ kind.Row size_kind kind.Row (λ v. refl) size_viewed (λ v. refl) put_at_fits args
+single_misfits NumChunks args = binary_misfits as_row as_size _ kind.Row size_kind (λ v. refl) size_viewed (λ a n. choice_fits (eqb n 0) (Fails Division) (Is (size_value (div_ceil (length a) n))) refl refl) args
+single_misfits GetChunk args = ternary_misfits as_row as_size as_size _ kind.Row size_kind size_kind (λ v. refl) size_viewed size_viewed (λ a n i. chunk_fits (chunk_length (length a) n i) (λ count. Is (value.Tuple (size_value count ∷ value.Seq (take count (drop (i * n) a)) ∷ []))) (λ count. refl)) args
+single_misfits SetChunk args = quaternary_misfits as_row as_size as_size as_row _ kind.Row size_kind size_kind kind.Row (λ v. refl) size_viewed size_viewed (λ v. refl) (λ a n i b. chunk_fits (chunk_length (length a) n i) (λ count. if eqb (length b) count then put_at a (i * n) b else Fails Length) (λ count. choice_fits (eqb (length b) count) (put_at a (i * n) b) (Fails Length) (put_at_fits a (i * n) b) refl)) args
+single_misfits ToArray args = binary_misfits as_size as_row _ size_kind kind.Row size_viewed (λ v. refl) (λ n s. choice_fits (eqb (length s) n) (row s) (Fails Length) refl refl) args
 single_misfits ToSeq args = unary_misfits as_row _ kind.Row (λ v. refl) (λ a. refl) args
 single_misfits OptUnwrap args = unary_misfits as_option _ kind.Option (λ v. refl) opened_fits args
 single_misfits ResUnwrap args = unary_misfits as_result _ kind.Result (λ v. refl) (λ r. good_fits r.0 r.1) args

@@ -23,8 +23,8 @@ abbrev pub number : Integer → Answer
 number n = Is (value.Int n)
 
 -- a length or a count, as a number of `usize`
-abbrev pub size : ℕ → Value
-size n = value.Int (record { kind = PUsize; number = pos n })
+abbrev pub size_value : ℕ → Value
+size_value n = value.Int (record { kind = PUsize; number = pos n })
 
 -- a sequence of these items
 abbrev pub row : List Value → Answer

@@ -54,17 +54,17 @@ have_kinds (kind.Each ∷ []) vs = true
 have_kinds ks vs = each_has ks vs
 
 -- the kind of lengths, places and amounts
-abbrev pub size : Kind
-size = kind.Int PUsize
+abbrev pub size_kind : Kind
+size_kind = kind.Int PUsize
 
 -- the kinds of the arguments of an operation on numbers
 abbrev pub number_args : NumberOp → IntTy → List Kind
 number_args Neg k = kind.Int k ∷ []
 number_args Not k = kind.Int k ∷ []
-number_args Shl k = kind.Int k ∷ size ∷ []
-number_args Shr k = kind.Int k ∷ size ∷ []
-number_args Rotl k = kind.Int k ∷ size ∷ []
-number_args Rotr k = kind.Int k ∷ size ∷ []
+number_args Shl k = kind.Int k ∷ size_kind ∷ []
+number_args Shr k = kind.Int k ∷ size_kind ∷ []
+number_args Rotl k = kind.Int k ∷ size_kind ∷ []
+number_args Rotr k = kind.Int k ∷ size_kind ∷ []
 number_args Classify k = kind.Int (public_of k) ∷ []
 number_args Declassify k = kind.Int k ∷ []
 number_args ToLe k = kind.Int k ∷ []
@@ -111,19 +111,19 @@ abbrev pub single_args : SingleOp → List Kind
 single_args BoolNot = kind.Bool ∷ []
 single_args Same = kind.Any ∷ kind.Any ∷ []
 single_args Differ = kind.Any ∷ kind.Any ∷ []
-single_args Item = kind.Row ∷ size ∷ []
-single_args Set = kind.Row ∷ size ∷ kind.Any ∷ []
+single_args Item = kind.Row ∷ size_kind ∷ []
+single_args Set = kind.Row ∷ size_kind ∷ kind.Any ∷ []
 single_args Len = kind.Row ∷ []
-single_args Make = kind.Any ∷ size ∷ []
+single_args Make = kind.Any ∷ size_kind ∷ []
 single_args ListOf = kind.Each ∷ []
 single_args Concat = kind.Row ∷ kind.Row ∷ []
 single_args Push = kind.Row ∷ kind.Any ∷ []
-single_args Slice = kind.Row ∷ size ∷ size ∷ []
-single_args Put = kind.Row ∷ size ∷ kind.Row ∷ []
-single_args NumChunks = kind.Row ∷ size ∷ []
-single_args GetChunk = kind.Row ∷ size ∷ size ∷ []
-single_args SetChunk = kind.Row ∷ size ∷ size ∷ kind.Row ∷ []
-single_args ToArray = size ∷ kind.Row ∷ []
+single_args Slice = kind.Row ∷ size_kind ∷ size_kind ∷ []
+single_args Put = kind.Row ∷ size_kind ∷ kind.Row ∷ []
+single_args NumChunks = kind.Row ∷ size_kind ∷ []
+single_args GetChunk = kind.Row ∷ size_kind ∷ size_kind ∷ []
+single_args SetChunk = kind.Row ∷ size_kind ∷ size_kind ∷ kind.Row ∷ []
+single_args ToArray = size_kind ∷ kind.Row ∷ []
 single_args ToSeq = kind.Row ∷ []
 single_args OptUnwrap = kind.Option ∷ []
 single_args ResUnwrap = kind.Result ∷ []
@@ -138,8 +138,8 @@ single_result BoolNot = kind.Bool
 single_result Same = kind.Bool
 single_result Differ = kind.Bool
 single_result Item = kind.Any
-single_result Len = size
-single_result NumChunks = size
+single_result Len = size_kind
+single_result NumChunks = size_kind
 single_result GetChunk = kind.Tuple 2
 single_result OptUnwrap = kind.Any
 single_result ResUnwrap = kind.Any

@@ -6,7 +6,7 @@ use Rattle.hs_words.specs.declared.kinds.Panic.TheVariants.{Division, Index, Len
 use Rattle.hs_values.specs.Fits.{max_length}
 use Rattle.hs_values.specs.declared.value.Value.{Value}
 use Rattle.hs_values.specs.declared.value.Value.TheVariants as value
-use Rattle.hs_ops.specs.Answer.{Answer, Is, Fails, size, row, unary, binary, ternary, quaternary}
+use Rattle.hs_ops.specs.Answer.{Answer, Is, Fails, size_value, row, unary, binary, ternary, quaternary}
 use Rattle.hs_ops.specs.Views.{any, as_size, as_row}
 
 -- a sequence of so many items, with the items that it then has; Length above the greatest length
@@ -28,7 +28,7 @@ set = ternary as_row as_size any (λ a i x. if nat_lt i (length a) then row (sli
 
 -- the number of items
 abbrev pub len : List Value → Answer
-len = unary as_row (λ a. Is (size (length a)))
+len = unary as_row (λ a. Is (size_value (length a)))
 
 -- n times the value x
 abbrev pub make : List Value → Answer
@@ -62,7 +62,7 @@ put = ternary as_row as_size as_row put_at
 
 -- how many chunks of n items there are, the last of which may be shorter
 abbrev pub num_chunks : List Value → Answer
-num_chunks = binary as_row as_size (λ a n. if eqb n 0 then Fails Division else Is (size (div_ceil (length a) n)))
+num_chunks = binary as_row as_size (λ a n. if eqb n 0 then Fails Division else Is (size_value (div_ceil (length a) n)))
 
 -- how many items chunk i of n items has, where there are so many in all; Division where n is 0, then Index where there is no such chunk
 abbrev pub chunk_length : ℕ → ℕ → ℕ → Result ℕ Panic
@@ -79,7 +79,7 @@ in_chunk (Err p) f = Fails p
 -- the length of chunk i of n items, and its items
 abbrev pub get_chunk : List Value → Answer
 get_chunk = ternary as_row as_size as_size (λ a n i.
-    in_chunk (chunk_length (length a) n i) (λ count. Is (value.Tuple (size count ∷ value.Seq (take count (drop (i * n) a)) ∷ []))))
+    in_chunk (chunk_length (length a) n i) (λ count. Is (value.Tuple (size_value count ∷ value.Seq (take count (drop (i * n) a)) ∷ []))))
 
 -- the items with chunk i of n items replaced by b, which has to be as long
 abbrev pub set_chunk : List Value → Answer

@@ -69,25 +69,25 @@ abbrev pub as_tuple : ℕ → Value → Option (List Value)
 as_tuple count v = tuple_in count (out-Value v)
 
 -- an option: nothing, or its part
-abbrev pub option_parts : ℕ → List Value → Option (Option Value)
-option_parts number [] = if eqb number 0 then Some None else None
-option_parts number (v ∷ []) = if eqb number 1 then Some (Some v) else None
-option_parts number _ = None
+abbrev pub option_from : ℕ → List Value → Option (Option Value)
+option_from number [] = if eqb number 0 then Some None else None
+option_from number (v ∷ []) = if eqb number 1 then Some (Some v) else None
+option_from number _ = None
 
 abbrev pub option_in : Value-F Value → Option (Option Value)
-option_in (layer.Ctor sort.Option number parts) = option_parts number parts
+option_in (layer.Ctor sort.Option number parts) = option_from number parts
 option_in _ = None
 
 abbrev pub as_option : Value → Option (Option Value)
 as_option v = option_in (out-Value v)
 
 -- a result: whether it is good, and its part
-abbrev pub result_parts : ℕ → List Value → Option (Bool × Value)
-result_parts number (v ∷ []) = if eqb number 0 then Some (true, v) else (if eqb number 1 then Some (false, v) else None)
-result_parts number _ = None
+abbrev pub result_from : ℕ → List Value → Option (Bool × Value)
+result_from number (v ∷ []) = if eqb number 0 then Some (true, v) else (if eqb number 1 then Some (false, v) else None)
+result_from number _ = None
 
 abbrev pub result_in : Value-F Value → Option (Bool × Value)
-result_in (layer.Ctor sort.Result number parts) = result_parts number parts
+result_in (layer.Ctor sort.Result number parts) = result_from number parts
 result_in _ = None
 
 abbrev pub as_result : Value → Option (Bool × Value)

@@ -6,7 +6,7 @@ ghost use Rattle.hs_ops.specs.Answer.{Tells};
 ghost use Rattle.hs_ops.specs.Rows as rows;
 
 use crate::row::OpStop;
-use crate::view::{four, one, row_of, size_of, size_value, three, two};
+use crate::view::{as_row, as_size, four, one, size_value, three, two};
 use hs_base::memory::NoMemory;
 use hs_values::{MAX_LENGTH, Value, Values};
 use hs_words::Panic;
@@ -40,8 +40,8 @@ pub fn item(args: Values) -> Result<Value, OpStop>
     ensures { Tells result (rows.item args) }
 {
     let (row, place) = two(args)?;
-    let mut row = row_of(row)?;
-    let place = size_of(place)?;
+    let mut row = as_row(row)?;
+    let place = as_size(place)?;
     if place < row.len() {
         Ok(row.remove(place))
     } else {
@@ -54,8 +54,8 @@ pub fn set(args: Values) -> Result<Value, OpStop>
     ensures { Tells result (rows.set args) }
 {
     let (row, place, item) = three(args)?;
-    let mut row = row_of(row)?;
-    let place = size_of(place)?;
+    let mut row = as_row(row)?;
+    let place = as_size(place)?;
     if place < row.len() {
         row.set(place, item);
         Ok(Value::Seq(row))
@@ -68,7 +68,7 @@ pub fn set(args: Values) -> Result<Value, OpStop>
 pub fn len(args: Values) -> Result<Value, OpStop>
     ensures { Tells result (rows.len args) }
 {
-    let row = row_of(one(args)?)?;
+    let row = as_row(one(args)?)?;
     Ok(size_value(row.len()))
 }
 
@@ -77,7 +77,7 @@ pub fn make(alloc: Global, args: Values) -> Result<Value, OpStop>
     ensures { Tells result (rows.make args) }
 {
     let (item, count) = two(args)?;
-    let count = size_of(count)?;
+    let count = as_size(count)?;
     if count <= MAX_LENGTH {
         Ok(Value::Seq(repeated(alloc, &item, count)?))
     } else {
@@ -97,8 +97,8 @@ pub fn concat(args: Values) -> Result<Value, OpStop>
     ensures { Tells result (rows.concat args) }
 {
     let (front, back) = two(args)?;
-    let mut front = row_of(front)?;
-    let back = row_of(back)?;
+    let mut front = as_row(front)?;
+    let back = as_row(back)?;
     if front.len() <= MAX_LENGTH && back.len() <= MAX_LENGTH - front.len() {
         front.append(back)?;
         Ok(Value::Seq(front))
@@ -112,7 +112,7 @@ pub fn push(args: Values) -> Result<Value, OpStop>
     ensures { Tells result (rows.push args) }
 {
     let (row, item) = two(args)?;
-    let mut row = row_of(row)?;
+    let mut row = as_row(row)?;
     if row.len() < MAX_LENGTH {
         row.push(item)?;
         Ok(Value::Seq(row))
@@ -126,9 +126,9 @@ pub fn slice(alloc: Global, args: Values) -> Result<Value, OpStop>
     ensures { Tells result (rows.slice args) }
 {
     let (row, start, count) = three(args)?;
-    let row = row_of(row)?;
-    let start = size_of(start)?;
-    let count = size_of(count)?;
+    let row = as_row(row)?;
+    let start = as_size(start)?;
+    let count = as_size(count)?;
     let items = row.as_slice();
     if start <= items.len() && count <= items.len() - start {
         Ok(Value::Seq(copies(alloc, &items[start..start + count])?))
@@ -164,9 +164,9 @@ pub fn put(args: Values) -> Result<Value, OpStop>
     ensures { Tells result (rows.put args) }
 {
     let (row, start, items) = three(args)?;
-    let row = row_of(row)?;
-    let start = size_of(start)?;
-    let items = row_of(items)?;
+    let row = as_row(row)?;
+    let start = as_size(start)?;
+    let items = as_row(items)?;
     put_at(row, start, items)
 }
 
@@ -175,8 +175,8 @@ pub fn num_chunks(args: Values) -> Result<Value, OpStop>
     ensures { Tells result (rows.num_chunks args) }
 {
     let (row, size) = two(args)?;
-    let row = row_of(row)?;
-    let size = size_of(size)?;
+    let row = as_row(row)?;
+    let size = as_size(size)?;
     if size == 0 {
         Err(OpStop::Panic(Panic::Division))
     } else {
@@ -207,9 +207,9 @@ pub fn get_chunk(alloc: Global, args: Values) -> Result<Value, OpStop>
     ensures { Tells result (rows.get_chunk args) }
 {
     let (row, size, number) = three(args)?;
-    let row = row_of(row)?;
-    let size = size_of(size)?;
-    let number = size_of(number)?;
+    let row = as_row(row)?;
+    let size = as_size(size)?;
+    let number = as_size(number)?;
     let items = row.as_slice();
     let count = chunk_length(items.len(), size, number)?;
     let start = number * size;
@@ -224,10 +224,10 @@ pub fn set_chunk(args: Values) -> Result<Value, OpStop>
     ensures { Tells result (rows.set_chunk args) }
 {
     let (row, size, number, items) = four(args)?;
-    let row = row_of(row)?;
-    let size = size_of(size)?;
-    let number = size_of(number)?;
-    let items = row_of(items)?;
+    let row = as_row(row)?;
+    let size = as_size(size)?;
+    let number = as_size(number)?;
+    let items = as_row(items)?;
     let count = chunk_length(row.len(), size, number)?;
     if items.len() == count {
         put_at(row, number * size, items)
@@ -241,8 +241,8 @@ pub fn to_array(args: Values) -> Result<Value, OpStop>
     ensures { Tells result (rows.to_array args) }
 {
     let (count, row) = two(args)?;
-    let count = size_of(count)?;
-    let row = row_of(row)?;
+    let count = as_size(count)?;
+    let row = as_row(row)?;
     if row.len() == count {
         Ok(Value::Seq(row))
     } else {
@@ -254,5 +254,5 @@ pub fn to_array(args: Values) -> Result<Value, OpStop>
 pub fn to_seq(args: Values) -> Result<Value, OpStop>
     ensures { Tells result (rows.to_seq args) }
 {
-    Ok(Value::Seq(row_of(one(args)?)?))
+    Ok(Value::Seq(as_row(one(args)?)?))
 }

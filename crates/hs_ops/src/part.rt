@@ -6,7 +6,7 @@ ghost use Rattle.hs_ops.specs.Parts as parts;
 
 use crate::pack::truth;
 use crate::row::OpStop;
-use crate::view::{one, option_of, result_of, tuple_of, two};
+use crate::view::{as_option, as_result, as_tuple, one, two};
 use hs_values::{Value, Values};
 use hs_words::Panic;
 
@@ -14,7 +14,7 @@ use hs_words::Panic;
 pub fn part(count: u32, at: u32, args: Values) -> Result<Value, OpStop>
     ensures { Tells result (parts.part count at args) }
 {
-    let mut parts = tuple_of(one(args)?, count)?;
+    let mut parts = as_tuple(one(args)?, count)?;
     if (at as usize) < parts.len() {
         Ok(parts.remove(at as usize))
     } else {
@@ -28,7 +28,7 @@ pub fn set_part(count: u32, at: u32, args: Values) -> Result<Value, OpStop>
     ensures { Tells result (parts.set_part count at args) }
 {
     let (tuple, part) = two(args)?;
-    let mut parts = tuple_of(tuple, count)?;
+    let mut parts = as_tuple(tuple, count)?;
     parts.set(at as usize, part);
     Ok(Value::Tuple(parts))
 }
@@ -37,7 +37,7 @@ pub fn set_part(count: u32, at: u32, args: Values) -> Result<Value, OpStop>
 pub fn opt_unwrap(args: Values) -> Result<Value, OpStop>
     ensures { Tells result (parts.opt_unwrap args) }
 {
-    match option_of(one(args)?)? {
+    match as_option(one(args)?)? {
         Some(part) => Ok(part),
         None => Err(OpStop::Panic(Panic::Unwrap)),
     }
@@ -47,7 +47,7 @@ pub fn opt_unwrap(args: Values) -> Result<Value, OpStop>
 pub fn res_unwrap(args: Values) -> Result<Value, OpStop>
     ensures { Tells result (parts.res_unwrap args) }
 {
-    let (good, part) = result_of(one(args)?)?;
+    let (good, part) = as_result(one(args)?)?;
     if good {
         Ok(part)
     } else {
@@ -59,21 +59,21 @@ pub fn res_unwrap(args: Values) -> Result<Value, OpStop>
 pub fn opt_is_some(args: Values) -> Result<Value, OpStop>
     ensures { Tells result (parts.opt_is_some args) }
 {
-    truth(option_of(one(args)?)?.is_some())
+    truth(as_option(one(args)?)?.is_some())
 }
 
 /// Whether an option has no part.
 pub fn opt_is_none(args: Values) -> Result<Value, OpStop>
     ensures { Tells result (parts.opt_is_none args) }
 {
-    truth(option_of(one(args)?)?.is_none())
+    truth(as_option(one(args)?)?.is_none())
 }
 
 /// Whether a result is good.
 pub fn res_is_ok(args: Values) -> Result<Value, OpStop>
     ensures { Tells result (parts.res_is_ok args) }
 {
-    let (good, _part) = result_of(one(args)?)?;
+    let (good, _part) = as_result(one(args)?)?;
     truth(good)
 }
 
@@ -81,7 +81,7 @@ pub fn res_is_ok(args: Values) -> Result<Value, OpStop>
 pub fn res_is_err(args: Values) -> Result<Value, OpStop>
     ensures { Tells result (parts.res_is_err args) }
 {
-    let (good, _part) = result_of(one(args)?)?;
+    let (good, _part) = as_result(one(args)?)?;
     truth(!good)
 }
 

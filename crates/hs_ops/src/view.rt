@@ -2,7 +2,7 @@
 
 ghost use Rattle.std.specs.Prelude.{◌≡◌, IfOk};
 ghost use Rattle.hs_words.specs.declared.kinds.IntTy.{IntTy};
-ghost use Rattle.hs_ops.specs.Answer.{Views, one_of, two_of, three_of, four_of, size};
+ghost use Rattle.hs_ops.specs.Answer.{Views, one_of, two_of, three_of, four_of, size_value};
 ghost use Rattle.hs_ops.specs.Views.{as_bool, as_int, as_size, as_row, as_tuple, as_option, as_result};
 
 use crate::known::same_kind;
@@ -123,7 +123,7 @@ pub fn word_of(value: Value, kind: IntTy) -> Result<Word, OpStop>
 /// # Errors
 ///
 /// `Kind` exactly where the value is none.
-pub fn size_of(value: Value) -> Result<usize, OpStop>
+pub fn as_size(value: Value) -> Result<usize, OpStop>
     ensures { Views result (as_size value) }
 {
     Ok(word_of(value, IntTy::PUsize)?.bits() as usize)
@@ -134,7 +134,7 @@ pub fn size_of(value: Value) -> Result<usize, OpStop>
 /// # Errors
 ///
 /// `Kind` exactly where the value is neither.
-pub fn row_of(value: Value) -> Result<Values, OpStop>
+pub fn as_row(value: Value) -> Result<Values, OpStop>
     ensures { Views result (as_row value) }
 {
     match value {
@@ -148,7 +148,7 @@ pub fn row_of(value: Value) -> Result<Values, OpStop>
 /// # Errors
 ///
 /// `Kind` exactly where the value is none.
-pub fn tuple_of(value: Value, count: u32) -> Result<Values, OpStop>
+pub fn as_tuple(value: Value, count: u32) -> Result<Values, OpStop>
     ensures { Views result (as_tuple count value) }
 {
     match value {
@@ -168,7 +168,7 @@ pub fn tuple_of(value: Value, count: u32) -> Result<Values, OpStop>
 /// # Errors
 ///
 /// `Kind` exactly where the value is no option.
-pub fn option_of(value: Value) -> Result<Option<Value>, OpStop>
+pub fn as_option(value: Value) -> Result<Option<Value>, OpStop>
     ensures { Views result (as_option value) }
 {
     match value {
@@ -189,7 +189,7 @@ pub fn option_of(value: Value) -> Result<Option<Value>, OpStop>
 /// # Errors
 ///
 /// `Kind` exactly where the value is no result.
-pub fn result_of(value: Value) -> Result<(bool, Value), OpStop>
+pub fn as_result(value: Value) -> Result<(bool, Value), OpStop>
     ensures { Views result (as_result value) }
 {
     match value {
@@ -201,7 +201,7 @@ pub fn result_of(value: Value) -> Result<(bool, Value), OpStop>
 
 /// A length or a count as a value.
 pub fn size_value(number: usize) -> Value
-    ensures { result ≡ size number }
+    ensures { result ≡ size_value number }
 {
     match Word::new(IntTy::PUsize, number as u128) {
         Some(word) => Value::Int(word),

@@ -4,8 +4,8 @@ use Rattle.hs_grammar.specs.Kinds.{starts}
 use Rattle.hs_grammar.specs.Lookahead.{begin}
 use Rattle.hs_forms.specs.declared.token.Token.{Token}
 use Rattle.hs_forms.specs.Lexis.{lexis}
-use Rattle.hs_forms.specs.Grammar.{tables, assign_kinds, assign_op, assigned, finished, behind_place}
-use Rattle.hs_forms.specs.Reading.{reads}
+use Rattle.hs_forms.specs.Reading.{tables, assign_kinds, assign_op, assigned, finished, behind_place}
+use Rattle.hs_forms.specs.Parsers.{reads}
 
 assigned_begin : begin tables assigned ≡ assign_kinds
 unfolding assigned assign_op

@@ -14,8 +14,8 @@ use Rattle.hs_forms.specs.declared.token.Kind.{Kind}
 use Rattle.hs_forms.specs.declared.token.Kind.TheVariants as k
 use Rattle.hs_forms.specs.declared.token.Token.{Token}
 use Rattle.hs_forms.specs.Lexis.{lexis}
-use Rattle.hs_forms.specs.Grammar.{grammar, tables, name_kinds, alone, if_form, match_form, let_form, for_form, return_form, alone_form, exp_form, piece_form, pieces}
-use Rattle.hs_forms.specs.Reading.{reads}
+use Rattle.hs_forms.specs.Reading.{grammar, tables, name_kinds, alone, if_form, match_form, let_form, for_form, return_form, alone_form, exp_form, piece_form, pieces}
+use Rattle.hs_forms.specs.Parsers.{reads}
 use Rattle.hs_parse_blocks.specs.Body.{piece_turn, with_statement, with_value}
 
 -- a piece is never empty

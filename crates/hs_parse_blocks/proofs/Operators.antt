@@ -7,7 +7,7 @@ use Rattle.hs_grammar.specs.Parser.{Done, and_then, giving, token_of}
 use Rattle.hs_grammar.specs.Reads.{Reads}
 use Rattle.hs_grammar.specs.Repeat.{repeated}
 use Rattle.hs_grammar.specs.Until.{pushed}
-use Rattle.hs_grammar.specs.Words.{star}
+use Rattle.hs_grammar.specs.Combinators.{star}
 use Rattle.hs_grammar.proofs.Reading.{reads_err, reads_star}
 use Rattle.hs_syntax.specs.declared.exp.BinaryOp.{BinaryOp}
 use Rattle.hs_syntax.specs.declared.exp.Level.{Level}
@@ -18,8 +18,8 @@ use Rattle.hs_forms.specs.declared.token.Kind.{Kind}
 use Rattle.hs_forms.specs.declared.token.Token.{Token}
 use Rattle.hs_forms.specs.Lexis.{lexis}
 use Rattle.hs_forms.specs.Nodes.{binary_of}
-use Rattle.hs_forms.specs.Grammar.{F, grammar, tables, op_of, operator, operand, one_or_none, operands, binary, cast}
-use Rattle.hs_forms.specs.Reading.{reads}
+use Rattle.hs_forms.specs.Reading.{F, grammar, tables, op_of, operator, operand, one_or_none, operands, binary, cast}
+use Rattle.hs_forms.specs.Parsers.{reads}
 
 -- an operand begins with its operator
 pub operand_begin : (l : Level) (below : F Exp) → begin tables (operand l below) ≡ begin tables (operator l)

@@ -4,7 +4,7 @@ use Rattle.hs_grammar.specs.Form.{Step, Map}
 use Rattle.hs_syntax.specs.declared.exp.Exp.{Exp}
 use Rattle.hs_syntax.specs.declared.exp.Stmt.{Stmt}
 use Rattle.hs_forms.specs.Blocks.{step_of_piece}
-use Rattle.hs_forms.specs.Grammar.{F, piece_form}
+use Rattle.hs_forms.specs.Reading.{F, piece_form}
 
 -- a piece as a turn
 abbrev pub piece_turn : F (Step Stmt Exp)

@@ -5,8 +5,8 @@ ghost use Rattle.hs_grammar.specs.Parser.{giving};
 ghost use Rattle.hs_grammar.specs.Reads.{Reads};
 ghost use Rattle.hs_grammar.specs.Until.{turn_of};
 ghost use Rattle.hs_forms.specs.Blocks as b;
-ghost use Rattle.hs_forms.specs.Grammar as g;
-ghost use Rattle.hs_forms.specs.Reading.{reads};
+ghost use Rattle.hs_forms.specs.Reading as g;
+ghost use Rattle.hs_forms.specs.Parsers.{reads};
 ghost use Rattle.hs_parse_exps.specs.Follow.{FollowGrammar};
 ghost use Rattle.hs_parse_blocks.specs.Body.{piece_turn, with_statement, with_value};
 
@@ -141,7 +141,7 @@ impl<
     }
 
     /// Block.
-    #[tactic(auto, unfolding(hs_forms::specs::Grammar::block_form))]
+    #[tactic(auto, unfolding(hs_forms::specs::Reading::block_form))]
     pub fn block_form(&self, tokens: &mut Tokens<'_, Token>) -> Result<Block, ParseError>
         requires { FollowGrammar E.Fn U.Fn B.Fn I.Fn self.now.rules }
         ensures { Reads (reads self.now.rules.depth g.block_form tokens.old) result tokens.new }

@@ -6,8 +6,8 @@ ghost use Rattle.hs_grammar.specs.Parser.{giving};
 ghost use Rattle.hs_grammar.specs.Reads.{Reads};
 ghost use Rattle.hs_grammar.specs.Until.{pushed};
 ghost use Rattle.hs_syntax.specs.declared.exp.Level.TheVariants as strength;
-ghost use Rattle.hs_forms.specs.Grammar as g;
-ghost use Rattle.hs_forms.specs.Reading.{reads};
+ghost use Rattle.hs_forms.specs.Reading as g;
+ghost use Rattle.hs_forms.specs.Parsers.{reads};
 ghost use Rattle.hs_parse_exps.specs.Follow.{FollowGrammar};
 
 use crate::forms::Forms;
@@ -21,7 +21,7 @@ use sqlite_items::Items;
 use std::alloc::Global;
 
 /// The kinds with which an operator of the level begins.
-#[tactic(auto, unfolding(hs_forms::specs::Grammar::operator))]
+#[tactic(auto, unfolding(hs_forms::specs::Reading::operator))]
 fn operators(level: Level) -> &'static [Kind]
     ensures { result.now ≡ begin g.tables (g.operator level) }
 {
@@ -52,7 +52,7 @@ impl<
     I: Fn(Global, &mut Tokens<'_, Token>, usize) -> Result<If, ParseError>,
 > Forms<E, U, B, I> {
     /// '<<' | '>' '>'
-    #[tactic(auto, unfolding(hs_forms::specs::Grammar::operator))]
+    #[tactic(auto, unfolding(hs_forms::specs::Reading::operator))]
     fn shift(&self, tokens: &mut Tokens<'_, Token>) -> Result<BinaryOp, ParseError>
         ensures { Reads (reads self.now.rules.depth (g.operator strength.Shift) tokens.old) result tokens.new }
     {
@@ -87,7 +87,7 @@ impl<
 
     /// An operator of the level, and its right operand, whose operators bind stronger.
     #[cycle(levels)]
-    #[tactic(auto, unfolding(hs_forms::specs::Grammar::operand))]
+    #[tactic(auto, unfolding(hs_forms::specs::Reading::operand))]
     fn operand(
         &self,
         tokens: &mut Tokens<'_, Token>,

@@ -2,8 +2,8 @@
 
 ghost use Rattle.hs_grammar.specs.Parser.{parse_by};
 ghost use Rattle.hs_grammar.specs.Reads.{Reads};
-ghost use Rattle.hs_forms.specs.Grammar as g;
-ghost use Rattle.hs_forms.specs.Reading.{reads};
+ghost use Rattle.hs_forms.specs.Reading as g;
+ghost use Rattle.hs_forms.specs.Parsers.{reads};
 
 use crate::forms::Forms;
 use hs_forms::Token;

@@ -4,11 +4,11 @@ ghost use Rattle.std.specs.Prelude.{◌≡◌, false, [], ◌∷◌};
 ghost use Rattle.hs_grammar.specs.Kinds.{starts};
 ghost use Rattle.hs_grammar.specs.Parser.{giving};
 ghost use Rattle.hs_grammar.specs.Reads.{Reads};
-ghost use Rattle.hs_grammar.specs.Words.{optional};
+ghost use Rattle.hs_grammar.specs.Combinators.{optional};
 ghost use Rattle.hs_forms.specs.declared.token.Kind.TheVariants as k;
 ghost use Rattle.hs_forms.specs.Lexis.{lexis};
-ghost use Rattle.hs_forms.specs.Grammar as g;
-ghost use Rattle.hs_forms.specs.Reading.{reads};
+ghost use Rattle.hs_forms.specs.Reading as g;
+ghost use Rattle.hs_forms.specs.Parsers.{reads};
 ghost use Rattle.hs_parse_exps.specs.Follow.{FollowGrammar};
 ghost use Rattle.hs_parse_blocks.specs.Annotation.{annotation};
 
@@ -55,7 +55,7 @@ impl<
     }
 
     /// 'let' Pat (':' Type)? '=' Exp ';'
-    #[tactic(auto, unfolding(hs_forms::specs::Grammar::let_form))]
+    #[tactic(auto, unfolding(hs_forms::specs::Reading::let_form))]
     fn let_form(&self, tokens: &mut Tokens<'_, Token>) -> Result<Piece, ParseError>
         requires { FollowGrammar E.Fn U.Fn B.Fn I.Fn self.now.rules }
         ensures { Reads (reads self.now.rules.depth g.let_form tokens.old) result tokens.new }
@@ -70,7 +70,7 @@ impl<
     }
 
     /// NAME | '_'
-    #[tactic(auto, unfolding(hs_forms::specs::Grammar::loop_variable, hs_forms::specs::Grammar::name))]
+    #[tactic(auto, unfolding(hs_forms::specs::Reading::loop_variable, hs_forms::specs::Reading::name))]
     fn loop_variable(&self, tokens: &mut Tokens<'_, Token>) -> Result<Variable, ParseError>
         ensures { Reads (reads self.now.rules.depth g.loop_variable tokens.old) result tokens.new }
     {
@@ -81,7 +81,7 @@ impl<
     }
 
     /// 'for' (NAME | '_') 'in' Exp '..' Exp Block
-    #[tactic(auto, unfolding(hs_forms::specs::Grammar::for_form, hs_syntax::specs::Spans::span_of_block))]
+    #[tactic(auto, unfolding(hs_forms::specs::Reading::for_form, hs_syntax::specs::Spans::span_of_block))]
     fn for_form(&self, tokens: &mut Tokens<'_, Token>) -> Result<Piece, ParseError>
         requires { FollowGrammar E.Fn U.Fn B.Fn I.Fn self.now.rules }
         ensures { Reads (reads self.now.rules.depth g.for_form tokens.old) result tokens.new }
@@ -97,7 +97,7 @@ impl<
     }
 
     /// What stands behind 'return': ';' | Exp ';'
-    #[tactic(auto, unfolding(hs_forms::specs::Grammar::returned))]
+    #[tactic(auto, unfolding(hs_forms::specs::Reading::returned))]
     fn returned(&self, tokens: &mut Tokens<'_, Token>) -> Result<(Option<Exp>, Span), ParseError>
         requires { FollowGrammar E.Fn U.Fn B.Fn I.Fn self.now.rules }
         ensures { Reads (reads self.now.rules.depth g.returned tokens.old) result tokens.new }
@@ -111,7 +111,7 @@ impl<
     }
 
     /// 'return' Exp? ';'
-    #[tactic(auto, unfolding(hs_forms::specs::Grammar::return_form))]
+    #[tactic(auto, unfolding(hs_forms::specs::Reading::return_form))]
     fn return_form(&self, tokens: &mut Tokens<'_, Token>) -> Result<Piece, ParseError>
         requires { FollowGrammar E.Fn U.Fn B.Fn I.Fn self.now.rules }
         ensures { Reads (reads self.now.rules.depth g.return_form tokens.old) result tokens.new }
@@ -132,7 +132,7 @@ impl<
     }
 
     /// (If | Match | Block) ';'?
-    #[tactic(auto, unfolding(hs_forms::specs::Grammar::alone_form))]
+    #[tactic(auto, unfolding(hs_forms::specs::Reading::alone_form))]
     fn alone_form(&self, tokens: &mut Tokens<'_, Token>) -> Result<Piece, ParseError>
         requires { FollowGrammar E.Fn U.Fn B.Fn I.Fn self.now.rules }
         ensures { Reads (reads self.now.rules.depth g.alone_form tokens.old) result tokens.new }
@@ -143,7 +143,7 @@ impl<
     }
 
     /// AssignOp
-    #[tactic(auto, unfolding(hs_forms::specs::Grammar::assign_op))]
+    #[tactic(auto, unfolding(hs_forms::specs::Reading::assign_op))]
     fn assign_op(&self, tokens: &mut Tokens<'_, Token>) -> Result<Option<BinaryOp>, ParseError>
         ensures { Reads (reads self.now.rules.depth g.assign_op tokens.old) result tokens.new }
     {
@@ -152,7 +152,7 @@ impl<
     }
 
     /// AssignOp Exp ';', behind a place
-    #[tactic(auto, unfolding(hs_forms::specs::Grammar::assigned))]
+    #[tactic(auto, unfolding(hs_forms::specs::Reading::assigned))]
     fn assigned(&self, tokens: &mut Tokens<'_, Token>, place: Exp) -> Result<Piece, ParseError>
         requires { FollowGrammar E.Fn U.Fn B.Fn I.Fn self.now.rules }
         ensures { Reads (giving (λ f. f place) (reads self.now.rules.depth g.assigned tokens.old)) result tokens.new }
@@ -165,7 +165,7 @@ impl<
     }
 
     /// ';', or nothing behind the tail
-    #[tactic(auto, unfolding(hs_forms::specs::Grammar::finished))]
+    #[tactic(auto, unfolding(hs_forms::specs::Reading::finished))]
     fn finished(&self, tokens: &mut Tokens<'_, Token>, exp: Exp) -> Result<Piece, ParseError>
         ensures { Reads (giving (λ f. f exp) (reads self.now.rules.depth g.finished tokens.old)) result tokens.new }
     {
@@ -177,7 +177,7 @@ impl<
     }
 
     /// What stands behind a place.
-    #[tactic(auto, unfolding(hs_forms::specs::Grammar::behind_place, hs_forms::specs::Grammar::assigned, hs_forms::specs::Grammar::assign_op))]
+    #[tactic(auto, unfolding(hs_forms::specs::Reading::behind_place, hs_forms::specs::Reading::assigned, hs_forms::specs::Reading::assign_op))]
     fn behind_place(&self, tokens: &mut Tokens<'_, Token>, place: Exp) -> Result<Piece, ParseError>
         requires { FollowGrammar E.Fn U.Fn B.Fn I.Fn self.now.rules }
         ensures { Reads (giving (λ f. f place) (reads self.now.rules.depth g.behind_place tokens.old)) result tokens.new }
@@ -190,7 +190,7 @@ impl<
     }
 
     /// What begins with an expression that does not stand alone.
-    #[tactic(auto, unfolding(hs_forms::specs::Grammar::exp_form))]
+    #[tactic(auto, unfolding(hs_forms::specs::Reading::exp_form))]
     fn exp_form(&self, tokens: &mut Tokens<'_, Token>) -> Result<Piece, ParseError>
         requires parsers { FollowGrammar E.Fn U.Fn B.Fn I.Fn self.now.rules }
         requires not_alone { starts lexis (k.LeftBrace ∷ k.If ∷ k.Match ∷ []) tokens.old ≡ false }
@@ -205,7 +205,7 @@ impl<
     }
 
     /// A statement, or the tail.
-    #[tactic(auto, unfolding(hs_forms::specs::Grammar::piece_form, hs_forms::specs::Grammar::let_form, hs_forms::specs::Grammar::for_form, hs_forms::specs::Grammar::return_form, hs_forms::specs::Grammar::alone_form, hs_forms::specs::Grammar::alone, hs_forms::specs::Grammar::if_form, hs_forms::specs::Grammar::match_form))]
+    #[tactic(auto, unfolding(hs_forms::specs::Reading::piece_form, hs_forms::specs::Reading::let_form, hs_forms::specs::Reading::for_form, hs_forms::specs::Reading::return_form, hs_forms::specs::Reading::alone_form, hs_forms::specs::Reading::alone, hs_forms::specs::Reading::if_form, hs_forms::specs::Reading::match_form))]
     pub fn piece_form(&self, tokens: &mut Tokens<'_, Token>) -> Result<Piece, ParseError>
         requires { FollowGrammar E.Fn U.Fn B.Fn I.Fn self.now.rules }
         ensures { Reads (reads self.now.rules.depth g.piece_form tokens.old) result tokens.new }

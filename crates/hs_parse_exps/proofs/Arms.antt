@@ -14,8 +14,8 @@ use Rattle.hs_forms.specs.declared.token.Token.{Token}
 use Rattle.hs_forms.specs.Lexis.{lexis}
 use Rattle.hs_forms.specs.Nodes.{all_arms}
 use Rattle.hs_forms.specs.Blocks.{step_of}
-use Rattle.hs_forms.specs.Grammar.{F, grammar, tables, arm_form, next_arms}
-use Rattle.hs_forms.specs.Reading.{reads}
+use Rattle.hs_forms.specs.Reading.{F, grammar, tables, arm_form, next_arms}
+use Rattle.hs_forms.specs.Parsers.{reads}
 
 abbrev turn_form : F (Step Arm Arm)
 turn_form = Map step_of arm_form

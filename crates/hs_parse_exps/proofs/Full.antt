@@ -3,7 +3,7 @@ use Rattle.std.proofs.Common.{◌≡◌, false, refl}
 use Rattle.hs_grammar.specs.Form.{Map}
 use Rattle.hs_grammar.specs.Lookahead.{empty}
 use Rattle.hs_forms.specs.Blocks.{step_of}
-use Rattle.hs_forms.specs.Grammar.{tables, postfix_form, index, arm_form, arm_pattern, name}
+use Rattle.hs_forms.specs.Reading.{tables, postfix_form, index, arm_form, arm_pattern, name}
 use Rattle.hs_parse_exps.specs.Parts.{as_name}
 
 pub postfix_full : empty tables postfix_form ≡ false

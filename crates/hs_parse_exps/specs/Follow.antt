@@ -2,8 +2,8 @@
 use Rattle.hs_syntax.specs.declared.exp.Exp.{Exp}
 use Rattle.hs_syntax.specs.declared.exp.If.{If}
 use Rattle.hs_syntax.specs.declared.exp.Block.{Block}
-use Rattle.hs_forms.specs.Grammar.{RExp, RUnary, RBlock, RIf}
-use Rattle.hs_forms.specs.Reading.{Parser, Parses}
+use Rattle.hs_forms.specs.Reading.{RExp, RUnary, RBlock, RIf}
+use Rattle.hs_forms.specs.Parsers.{Parser, Parses}
 use Rattle.hs_parse_exps.specs.declared.rules.Rules.{Rules}
 
 -- each parser is that of its rule, with rules nested as deep

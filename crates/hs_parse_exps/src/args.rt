@@ -3,9 +3,9 @@
 ghost use Rattle.hs_grammar.specs.Parser.{giving};
 ghost use Rattle.hs_grammar.specs.Reads.{Reads};
 ghost use Rattle.hs_grammar.specs.Until.{turn_of, pushed, kept};
-ghost use Rattle.hs_grammar.specs.Words.{list_turn, list_read};
-ghost use Rattle.hs_forms.specs.Grammar as g;
-ghost use Rattle.hs_forms.specs.Reading.{reads};
+ghost use Rattle.hs_grammar.specs.Combinators.{list_turn, list_read};
+ghost use Rattle.hs_forms.specs.Reading as g;
+ghost use Rattle.hs_forms.specs.Parsers.{reads};
 ghost use Rattle.hs_parse_exps.specs.Follow.{FollowGrammar};
 
 use crate::begins::is_at_arg;
@@ -27,7 +27,7 @@ impl<
     I: Fn(Global, &mut Tokens<'_, Token>, usize) -> Result<If, ParseError>,
 > Rules<E, U, B, I> {
     /// 'mut' NAME | Exp, behind a '&'
-    #[tactic(auto, unfolding(hs_forms::specs::Grammar::lent, hs_forms::specs::Grammar::name))]
+    #[tactic(auto, unfolding(hs_forms::specs::Reading::lent, hs_forms::specs::Reading::name))]
     fn lent(&self, tokens: &mut Tokens<'_, Token>, mark: Span) -> Result<Arg, ParseError>
         requires { FollowGrammar E.Fn U.Fn B.Fn I.Fn self.now }
         ensures { Reads (giving (λ f. f mark) (reads self.now.depth g.lent tokens.old)) result tokens.new }
@@ -42,7 +42,7 @@ impl<
     }
 
     /// '&' 'mut' NAME | '&' Exp
-    #[tactic(auto, unfolding(hs_forms::specs::Grammar::lent_arg))]
+    #[tactic(auto, unfolding(hs_forms::specs::Reading::lent_arg))]
     fn lent_arg(&self, tokens: &mut Tokens<'_, Token>) -> Result<Arg, ParseError>
         requires { FollowGrammar E.Fn U.Fn B.Fn I.Fn self.now }
         ensures { Reads (reads self.now.depth g.lent_arg tokens.old) result tokens.new }
@@ -52,7 +52,7 @@ impl<
     }
 
     /// '[' list(Exp) ']'
-    #[tactic(auto, unfolding(hs_forms::specs::Grammar::list_arg))]
+    #[tactic(auto, unfolding(hs_forms::specs::Reading::list_arg))]
     fn list_arg(&self, tokens: &mut Tokens<'_, Token>) -> Result<Arg, ParseError>
         requires { FollowGrammar E.Fn U.Fn B.Fn I.Fn self.now }
         ensures { Reads (reads self.now.depth g.list_arg tokens.old) result tokens.new }
@@ -64,7 +64,7 @@ impl<
     }
 
     /// Arg
-    #[tactic(auto, unfolding(hs_forms::specs::Grammar::arg_form, hs_forms::specs::Grammar::lent_arg, hs_forms::specs::Grammar::list_arg))]
+    #[tactic(auto, unfolding(hs_forms::specs::Reading::arg_form, hs_forms::specs::Reading::lent_arg, hs_forms::specs::Reading::list_arg))]
     fn arg_form(&self, tokens: &mut Tokens<'_, Token>) -> Result<Arg, ParseError>
         requires { FollowGrammar E.Fn U.Fn B.Fn I.Fn self.now }
         ensures { Reads (reads self.now.depth g.arg_form tokens.old) result tokens.new }
@@ -114,7 +114,7 @@ impl<
     }
 
     /// ')' | list(Arg) ')', behind a '('
-    #[tactic(auto, unfolding(hs_forms::specs::Grammar::args_rest))]
+    #[tactic(auto, unfolding(hs_forms::specs::Reading::args_rest))]
     fn args_rest(&self, tokens: &mut Tokens<'_, Token>) -> Result<(Items<Arg>, Span), ParseError>
         requires { FollowGrammar E.Fn U.Fn B.Fn I.Fn self.now }
         ensures { Reads (reads self.now.depth g.args_rest tokens.old) result tokens.new }
@@ -129,7 +129,7 @@ impl<
     }
 
     /// '(' list(Arg)? ')', with the bytes of the last token
-    #[tactic(auto, unfolding(hs_forms::specs::Grammar::args))]
+    #[tactic(auto, unfolding(hs_forms::specs::Reading::args))]
     pub(crate) fn args(
         &self,
         tokens: &mut Tokens<'_, Token>,
@@ -142,7 +142,7 @@ impl<
     }
 
     /// Path ('(' list(Arg)? ')')?
-    #[tactic(auto, unfolding(hs_forms::specs::Grammar::call_form, hs_forms::specs::Grammar::args))]
+    #[tactic(auto, unfolding(hs_forms::specs::Reading::call_form, hs_forms::specs::Reading::args))]
     pub(crate) fn call_form(&self, tokens: &mut Tokens<'_, Token>) -> Result<Exp, ParseError>
         requires { FollowGrammar E.Fn U.Fn B.Fn I.Fn self.now }
         ensures { Reads (reads self.now.depth g.call_form tokens.old) result tokens.new }

@@ -4,7 +4,7 @@ ghost use Rattle.std.specs.Prelude.{◌≡◌};
 ghost use Rattle.hs_grammar.specs.Kinds.{starts};
 ghost use Rattle.hs_grammar.specs.Lookahead.{begin};
 ghost use Rattle.hs_forms.specs.Lexis.{lexis};
-ghost use Rattle.hs_forms.specs.Grammar as g;
+ghost use Rattle.hs_forms.specs.Reading as g;
 
 use hs_forms::{Kind, Token, is_at_name};
 use hs_grammar::cursor::Tokens;
@@ -33,7 +33,7 @@ pub(crate) fn is_at_expression(tokens: &Tokens<'_, Token>) -> bool
 }
 
 /// Whether an argument can begin with the next token.
-#[tactic(auto, using(crate::proofs::Starts::starts_append), unfolding(hs_forms::specs::Grammar::arg_form, hs_forms::specs::Grammar::lent_arg, hs_forms::specs::Grammar::list_arg))]
+#[tactic(auto, using(crate::proofs::Starts::starts_append), unfolding(hs_forms::specs::Reading::arg_form, hs_forms::specs::Reading::lent_arg, hs_forms::specs::Reading::list_arg))]
 pub(crate) fn is_at_arg(tokens: &Tokens<'_, Token>) -> bool
     ensures { result ≡ starts lexis (begin g.tables g.arg_form) tokens.now }
 {

@@ -9,8 +9,8 @@ ghost use Rattle.hs_grammar.specs.Until.{turn_of, pushed};
 ghost use Rattle.hs_forms.specs.Lexis.{lexis};
 ghost use Rattle.hs_forms.specs.Nodes.{all_arms};
 ghost use Rattle.hs_forms.specs.Blocks.{step_of};
-ghost use Rattle.hs_forms.specs.Grammar as g;
-ghost use Rattle.hs_forms.specs.Reading.{reads};
+ghost use Rattle.hs_forms.specs.Reading as g;
+ghost use Rattle.hs_forms.specs.Parsers.{reads};
 ghost use Rattle.hs_parse_exps.specs.Follow.{FollowGrammar};
 
 use crate::node;
@@ -46,7 +46,7 @@ impl<
     I: Fn(Global, &mut Tokens<'_, Token>, usize) -> Result<If, ParseError>,
 > Rules<E, U, B, I> {
     /// Block ','?, and that it need not be the last arm's value
-    #[tactic(auto, unfolding(hs_forms::specs::Grammar::block_value))]
+    #[tactic(auto, unfolding(hs_forms::specs::Reading::block_value))]
     fn block_value(&self, tokens: &mut Tokens<'_, Token>) -> Result<(Exp, bool), ParseError>
         requires { FollowGrammar E.Fn U.Fn B.Fn I.Fn self.now }
         ensures { Reads (reads self.now.depth g.block_value tokens.old) result tokens.new }
@@ -57,7 +57,7 @@ impl<
     }
 
     /// Exp ','?, and whether it is the last arm's value, since no ',' stands behind it
-    #[tactic(auto, unfolding(hs_forms::specs::Grammar::exp_value))]
+    #[tactic(auto, unfolding(hs_forms::specs::Reading::exp_value))]
     fn exp_value(&self, tokens: &mut Tokens<'_, Token>) -> Result<(Exp, bool), ParseError>
         requires parsers { FollowGrammar E.Fn U.Fn B.Fn I.Fn self.now }
         requires no_block { starts lexis (Kind.LeftBrace ∷ []) tokens.old ≡ false }
@@ -69,7 +69,7 @@ impl<
     }
 
     /// ArmPat '=>' (Block ','? | Exp ','?), and whether it is the last arm
-    #[tactic(auto, unfolding(hs_forms::specs::Grammar::arm_form, hs_forms::specs::Grammar::block_value))]
+    #[tactic(auto, unfolding(hs_forms::specs::Reading::arm_form, hs_forms::specs::Reading::block_value))]
     fn arm_form(&self, tokens: &mut Tokens<'_, Token>) -> Result<(Arm, bool), ParseError>
         requires { FollowGrammar E.Fn U.Fn B.Fn I.Fn self.now }
         ensures { Reads (reads self.now.depth g.arm_form tokens.old) result tokens.new }
@@ -125,7 +125,7 @@ impl<
     }
 
     /// Arm+
-    #[tactic(auto, unfolding(hs_forms::specs::Grammar::arms))]
+    #[tactic(auto, unfolding(hs_forms::specs::Reading::arms))]
     fn arms(&self, tokens: &mut Tokens<'_, Token>) -> Result<Items<Arm>, ParseError>
         requires { FollowGrammar E.Fn U.Fn B.Fn I.Fn self.now }
         ensures { Reads (reads self.now.depth g.arms tokens.old) result tokens.new }
@@ -140,7 +140,7 @@ impl<
     }
 
     /// 'match' Exp '{' Arm+ '}'
-    #[tactic(auto, unfolding(hs_forms::specs::Grammar::match_form))]
+    #[tactic(auto, unfolding(hs_forms::specs::Reading::match_form))]
     fn match_form(&self, tokens: &mut Tokens<'_, Token>) -> Result<Exp, ParseError>
         requires { FollowGrammar E.Fn U.Fn B.Fn I.Fn self.now }
         ensures { Reads (reads self.now.depth g.match_form tokens.old) result tokens.new }
@@ -161,7 +161,7 @@ impl<
     I: Fn(Global, &mut Tokens<'_, Token>, usize) -> Result<If, ParseError>,
 > Rules<E, U, B, I> {
     /// If | Block, behind 'else'
-    #[tactic(auto, unfolding(hs_forms::specs::Grammar::else_branch))]
+    #[tactic(auto, unfolding(hs_forms::specs::Reading::else_branch))]
     fn else_branch(&self, tokens: &mut Tokens<'_, Token>) -> Result<Else, ParseError>
         requires { FollowGrammar E.Fn U.Fn B.Fn I.Fn self.now }
         ensures { Reads (reads self.now.depth g.else_branch tokens.old) result tokens.new }
@@ -175,7 +175,7 @@ impl<
     }
 
     /// ('else' (If | Block))?
-    #[tactic(auto, unfolding(hs_forms::specs::Grammar::else_form))]
+    #[tactic(auto, unfolding(hs_forms::specs::Reading::else_form))]
     fn else_form(&self, tokens: &mut Tokens<'_, Token>) -> Result<Option<Else>, ParseError>
         requires { FollowGrammar E.Fn U.Fn B.Fn I.Fn self.now }
         ensures { Reads (reads self.now.depth g.else_form tokens.old) result tokens.new }
@@ -187,7 +187,7 @@ impl<
     }
 
     /// If: 'if' Exp Block ('else' (If | Block))?
-    #[tactic(auto, unfolding(hs_forms::specs::Grammar::if_form))]
+    #[tactic(auto, unfolding(hs_forms::specs::Reading::if_form))]
     pub fn if_form(&self, tokens: &mut Tokens<'_, Token>) -> Result<If, ParseError>
         requires { FollowGrammar E.Fn U.Fn B.Fn I.Fn self.now }
         ensures { Reads (reads self.now.depth g.if_form tokens.old) result tokens.new }
@@ -200,7 +200,7 @@ impl<
     }
 
     /// If | Match | Block
-    #[tactic(auto, unfolding(hs_forms::specs::Grammar::alone, hs_forms::specs::Grammar::if_form, hs_forms::specs::Grammar::match_form))]
+    #[tactic(auto, unfolding(hs_forms::specs::Reading::alone, hs_forms::specs::Reading::if_form, hs_forms::specs::Reading::match_form))]
     pub fn alone(&self, tokens: &mut Tokens<'_, Token>) -> Result<Exp, ParseError>
         requires { FollowGrammar E.Fn U.Fn B.Fn I.Fn self.now }
         ensures { Reads (reads self.now.depth g.alone tokens.old) result tokens.new }

@@ -2,8 +2,8 @@
 
 ghost use Rattle.hs_grammar.specs.Parser.{giving};
 ghost use Rattle.hs_grammar.specs.Reads.{Reads};
-ghost use Rattle.hs_forms.specs.Grammar as g;
-ghost use Rattle.hs_forms.specs.Reading.{reads};
+ghost use Rattle.hs_forms.specs.Reading as g;
+ghost use Rattle.hs_forms.specs.Parsers.{reads};
 ghost use Rattle.hs_parse_exps.specs.Follow.{FollowGrammar};
 
 use crate::node;
@@ -21,7 +21,7 @@ impl<
     I: Fn(Global, &mut Tokens<'_, Token>, usize) -> Result<If, ParseError>,
 > Rules<E, U, B, I> {
     /// ')' | ',' list(Exp) ')', behind a '(' and an expression
-    #[tactic(auto, unfolding(hs_forms::specs::Grammar::behind_first))]
+    #[tactic(auto, unfolding(hs_forms::specs::Reading::behind_first))]
     fn behind_first(
         &self,
         tokens: &mut Tokens<'_, Token>,
@@ -42,7 +42,7 @@ impl<
     }
 
     /// What stands behind '('.
-    #[tactic(auto, unfolding(hs_forms::specs::Grammar::grouped_rest))]
+    #[tactic(auto, unfolding(hs_forms::specs::Reading::grouped_rest))]
     fn grouped_rest(&self, tokens: &mut Tokens<'_, Token>, left: Span) -> Result<Exp, ParseError>
         requires { FollowGrammar E.Fn U.Fn B.Fn I.Fn self.now }
         ensures { Reads (giving (λ f. f left) (reads self.now.depth g.grouped_rest tokens.old)) result tokens.new }
@@ -56,7 +56,7 @@ impl<
     }
 
     /// '(' ')' | '(' Exp ')' | '(' Exp ',' list(Exp) ')'
-    #[tactic(auto, unfolding(hs_forms::specs::Grammar::grouped))]
+    #[tactic(auto, unfolding(hs_forms::specs::Reading::grouped))]
     pub(crate) fn grouped(&self, tokens: &mut Tokens<'_, Token>) -> Result<Exp, ParseError>
         requires { FollowGrammar E.Fn U.Fn B.Fn I.Fn self.now }
         ensures { Reads (reads self.now.depth g.grouped tokens.old) result tokens.new }

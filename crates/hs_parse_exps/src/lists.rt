@@ -3,9 +3,9 @@
 ghost use Rattle.hs_grammar.specs.Parser.{giving};
 ghost use Rattle.hs_grammar.specs.Reads.{Reads};
 ghost use Rattle.hs_grammar.specs.Until.{turn_of, pushed, kept};
-ghost use Rattle.hs_grammar.specs.Words.{list_turn, list_read};
-ghost use Rattle.hs_forms.specs.Grammar as g;
-ghost use Rattle.hs_forms.specs.Reading.{reads};
+ghost use Rattle.hs_grammar.specs.Combinators.{list_turn, list_read};
+ghost use Rattle.hs_forms.specs.Reading as g;
+ghost use Rattle.hs_forms.specs.Parsers.{reads};
 ghost use Rattle.hs_parse_exps.specs.Follow.{FollowGrammar};
 
 use crate::begins::is_at_expression;

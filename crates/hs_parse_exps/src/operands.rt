@@ -3,9 +3,9 @@
 ghost use Rattle.hs_grammar.specs.Parser.{giving};
 ghost use Rattle.hs_grammar.specs.Reads.{Reads};
 ghost use Rattle.hs_grammar.specs.Until.{pushed};
-ghost use Rattle.hs_grammar.specs.Words.{star};
-ghost use Rattle.hs_forms.specs.Grammar as g;
-ghost use Rattle.hs_forms.specs.Reading.{reads};
+ghost use Rattle.hs_grammar.specs.Combinators.{star};
+ghost use Rattle.hs_forms.specs.Reading as g;
+ghost use Rattle.hs_forms.specs.Parsers.{reads};
 ghost use Rattle.hs_parse_exps.specs.Follow.{FollowGrammar};
 ghost use Rattle.hs_parse_exps.specs.Parts.{as_name};
 
@@ -26,7 +26,7 @@ const LITERALS: [Kind; 4] = [Kind::Int, Kind::Digits, Kind::True, Kind::False];
 const PREFIXES: [Kind; 3] = [Kind::Minus, Kind::Not, Kind::Star];
 
 /// INT | 'true' | 'false'
-#[tactic(auto, unfolding(hs_forms::specs::Grammar::literal, hs_forms::specs::Grammar::int))]
+#[tactic(auto, unfolding(hs_forms::specs::Reading::literal, hs_forms::specs::Reading::int))]
 fn literal(tokens: &mut Tokens<'_, Token>) -> Result<Exp, ParseError>
     ensures { Reads (reads 0 g.literal tokens.old) result tokens.new }
 {
@@ -40,7 +40,7 @@ fn literal(tokens: &mut Tokens<'_, Token>) -> Result<Exp, ParseError>
 }
 
 /// 'as' NAME
-#[tactic(auto, unfolding(hs_forms::specs::Grammar::name))]
+#[tactic(auto, unfolding(hs_forms::specs::Reading::name))]
 fn next_name(
     tokens: &mut Tokens<'_, Token>,
     mut names: Items<Span>,
@@ -74,7 +74,7 @@ impl<
     I: Fn(Global, &mut Tokens<'_, Token>, usize) -> Result<If, ParseError>,
 > Rules<E, U, B, I> {
     /// Prim: a literal, what stands in parentheses, a path or a call, or an `if`, a `match` or a block.
-    #[tactic(auto, unfolding(hs_forms::specs::Grammar::prim, hs_forms::specs::Grammar::literal, hs_forms::specs::Grammar::int, hs_forms::specs::Grammar::grouped, hs_forms::specs::Grammar::call_form, hs_forms::specs::Grammar::path_form, hs_forms::specs::Grammar::name))]
+    #[tactic(auto, unfolding(hs_forms::specs::Reading::prim, hs_forms::specs::Reading::literal, hs_forms::specs::Reading::int, hs_forms::specs::Reading::grouped, hs_forms::specs::Reading::call_form, hs_forms::specs::Reading::path_form, hs_forms::specs::Reading::name))]
     fn prim(&self, tokens: &mut Tokens<'_, Token>) -> Result<Exp, ParseError>
         requires { FollowGrammar E.Fn U.Fn B.Fn I.Fn self.now }
         ensures { Reads (reads self.now.depth g.prim tokens.old) result tokens.new }
@@ -92,7 +92,7 @@ impl<
     }
 
     /// Post: such a part, and any number of steps behind it.
-    #[tactic(auto, unfolding(hs_forms::specs::Grammar::post))]
+    #[tactic(auto, unfolding(hs_forms::specs::Reading::post))]
     fn post(&self, tokens: &mut Tokens<'_, Token>) -> Result<Exp, ParseError>
         requires { FollowGrammar E.Fn U.Fn B.Fn I.Fn self.now }
         ensures { Reads (reads self.now.depth g.post tokens.old) result tokens.new }
@@ -103,7 +103,7 @@ impl<
     }
 
     /// Unary: an operand with a prefix before it, or with steps behind it.
-    #[tactic(auto, unfolding(hs_forms::specs::Grammar::unary))]
+    #[tactic(auto, unfolding(hs_forms::specs::Reading::unary))]
     pub fn unary(&self, tokens: &mut Tokens<'_, Token>) -> Result<Exp, ParseError>
         requires { FollowGrammar E.Fn U.Fn B.Fn I.Fn self.now }
         ensures { Reads (reads self.now.depth g.unary tokens.old) result tokens.new }
@@ -117,7 +117,7 @@ impl<
     }
 
     /// Cast: such an operand, and any number of 'as' NAME behind it.
-    #[tactic(auto, unfolding(hs_forms::specs::Grammar::cast, hs_forms::specs::Grammar::name))]
+    #[tactic(auto, unfolding(hs_forms::specs::Reading::cast, hs_forms::specs::Reading::name))]
     pub fn cast(&self, tokens: &mut Tokens<'_, Token>) -> Result<Exp, ParseError>
         requires { FollowGrammar E.Fn U.Fn B.Fn I.Fn self.now }
         ensures { Reads (reads self.now.depth g.cast tokens.old) result tokens.new }

@@ -2,8 +2,8 @@
 
 ghost use Rattle.hs_grammar.specs.Parser.{giving};
 ghost use Rattle.hs_grammar.specs.Reads.{Reads};
-ghost use Rattle.hs_forms.specs.Grammar as g;
-ghost use Rattle.hs_forms.specs.Reading.{reads};
+ghost use Rattle.hs_forms.specs.Reading as g;
+ghost use Rattle.hs_forms.specs.Parsers.{reads};
 
 use hs_forms::{Kind, Token, across, name};
 use hs_grammar::cursor::Tokens;
@@ -13,7 +13,7 @@ use hs_syntax::{Path, Span, Ty};
 use std::alloc::Global;
 
 /// '<' Type '>'
-#[tactic(auto, unfolding(hs_forms::specs::Grammar::path_type))]
+#[tactic(auto, unfolding(hs_forms::specs::Reading::path_type))]
 fn path_type(alloc: Global, tokens: &mut Tokens<'_, Token>, depth: usize) -> Result<Ty, ParseError>
     ensures { Reads (reads depth g.path_type tokens.old) result tokens.new }
 {
@@ -28,7 +28,7 @@ fn path_type(alloc: Global, tokens: &mut Tokens<'_, Token>, depth: usize) -> Res
 }
 
 /// '<' Type '>' '::' NAME, behind a first name and '::'
-#[tactic(auto, unfolding(hs_forms::specs::Grammar::path_of_type, hs_forms::specs::Grammar::name))]
+#[tactic(auto, unfolding(hs_forms::specs::Reading::path_of_type, hs_forms::specs::Reading::name))]
 fn path_of_type(
     alloc: Global,
     tokens: &mut Tokens<'_, Token>,
@@ -44,7 +44,7 @@ fn path_of_type(
 }
 
 /// What stands behind a first name and '::'.
-#[tactic(auto, unfolding(hs_forms::specs::Grammar::behind_separator, hs_forms::specs::Grammar::path_of_type, hs_forms::specs::Grammar::path_type, hs_forms::specs::Grammar::name))]
+#[tactic(auto, unfolding(hs_forms::specs::Reading::behind_separator, hs_forms::specs::Reading::path_of_type, hs_forms::specs::Reading::path_type, hs_forms::specs::Reading::name))]
 fn behind_separator(
     alloc: Global,
     tokens: &mut Tokens<'_, Token>,
@@ -61,7 +61,7 @@ fn behind_separator(
 }
 
 /// Path, where rules nest no deeper than `depth`.
-#[tactic(auto, unfolding(hs_forms::specs::Grammar::path_form, hs_forms::specs::Grammar::name))]
+#[tactic(auto, unfolding(hs_forms::specs::Reading::path_form, hs_forms::specs::Reading::name))]
 pub(crate) fn path(
     alloc: Global,
     tokens: &mut Tokens<'_, Token>,

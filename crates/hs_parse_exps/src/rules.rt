@@ -1,8 +1,8 @@
 //! The parsers of the rules that lead back to themselves.
 
 ghost use Rattle.hs_grammar.specs.Reads.{Reads};
-ghost use Rattle.hs_forms.specs.Grammar as g;
-ghost use Rattle.hs_forms.specs.Reading.{reads};
+ghost use Rattle.hs_forms.specs.Reading as g;
+ghost use Rattle.hs_forms.specs.Parsers.{reads};
 ghost use Rattle.hs_parse_exps.specs.Follow.{FollowGrammar};
 
 use hs_forms::Token;

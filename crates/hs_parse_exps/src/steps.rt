@@ -3,9 +3,9 @@
 ghost use Rattle.hs_grammar.specs.Parser.{giving};
 ghost use Rattle.hs_grammar.specs.Reads.{Reads};
 ghost use Rattle.hs_grammar.specs.Until.{pushed};
-ghost use Rattle.hs_grammar.specs.Words.{star};
-ghost use Rattle.hs_forms.specs.Grammar as g;
-ghost use Rattle.hs_forms.specs.Reading.{reads};
+ghost use Rattle.hs_grammar.specs.Combinators.{star};
+ghost use Rattle.hs_forms.specs.Reading as g;
+ghost use Rattle.hs_forms.specs.Parsers.{reads};
 ghost use Rattle.hs_parse_exps.specs.Follow.{FollowGrammar};
 
 use crate::rules::Rules;
@@ -24,7 +24,7 @@ impl<
     I: Fn(Global, &mut Tokens<'_, Token>, usize) -> Result<If, ParseError>,
 > Rules<E, U, B, I> {
     /// NAME '(' list(Arg)? ')', behind a '.'
-    #[tactic(auto, unfolding(hs_forms::specs::Grammar::method, hs_forms::specs::Grammar::name))]
+    #[tactic(auto, unfolding(hs_forms::specs::Reading::method, hs_forms::specs::Reading::name))]
     fn method(&self, tokens: &mut Tokens<'_, Token>, dot: Span) -> Result<Postfix, ParseError>
         requires { FollowGrammar E.Fn U.Fn B.Fn I.Fn self.now }
         ensures { Reads (giving (λ f. f dot) (reads self.now.depth g.method tokens.old)) result tokens.new }
@@ -35,7 +35,7 @@ impl<
     }
 
     /// An integer of decimal digits alone, or a call of a method, behind a '.'.
-    #[tactic(auto, unfolding(hs_forms::specs::Grammar::behind_dot))]
+    #[tactic(auto, unfolding(hs_forms::specs::Reading::behind_dot))]
     fn behind_dot(&self, tokens: &mut Tokens<'_, Token>, dot: Span) -> Result<Postfix, ParseError>
         requires { FollowGrammar E.Fn U.Fn B.Fn I.Fn self.now }
         ensures { Reads (giving (λ f. f dot) (reads self.now.depth g.behind_dot tokens.old)) result tokens.new }
@@ -48,7 +48,7 @@ impl<
     }
 
     /// '[' Exp ']'
-    #[tactic(auto, unfolding(hs_forms::specs::Grammar::index))]
+    #[tactic(auto, unfolding(hs_forms::specs::Reading::index))]
     fn index(&self, tokens: &mut Tokens<'_, Token>) -> Result<Step, ParseError>
         requires { FollowGrammar E.Fn U.Fn B.Fn I.Fn self.now }
         ensures { Reads (reads self.now.depth g.index tokens.old) result tokens.new }
@@ -60,7 +60,7 @@ impl<
     }
 
     /// '?' | '.' NAME '(' list(Arg)? ')' | '.' INT | '[' Exp ']'
-    #[tactic(auto, unfolding(hs_forms::specs::Grammar::postfix_form))]
+    #[tactic(auto, unfolding(hs_forms::specs::Reading::postfix_form))]
     fn postfix_form(&self, tokens: &mut Tokens<'_, Token>) -> Result<Postfix, ParseError>
         requires { FollowGrammar E.Fn U.Fn B.Fn I.Fn self.now }
         ensures { Reads (reads self.now.depth g.postfix_form tokens.old) result tokens.new }

@@ -1,8 +1,8 @@
 -- Parts of the grammar's forms that functions of their own read.
 use Rattle.hs_grammar.specs.Form.{Alt}
-use Rattle.hs_grammar.specs.Words.{word, ◌>>◌, optional}
+use Rattle.hs_grammar.specs.Combinators.{word, ◌>>◌, optional}
 use Rattle.hs_forms.specs.declared.token.Kind.TheVariants as k
-use Rattle.hs_forms.specs.Grammar.{F, Declared, data_form, use_form, array_form, bytes_form, nat_mod_form}
+use Rattle.hs_forms.specs.Reading.{F, Declared, data_form, use_form, array_form, bytes_form, nat_mod_form}
 
 -- 'pub'? and what may have a derive list
 abbrev pub derived_data : F Declared

@@ -3,9 +3,9 @@
 ghost use Rattle.hs_grammar.specs.Parser.{giving};
 ghost use Rattle.hs_grammar.specs.Reads.{Reads};
 ghost use Rattle.hs_grammar.specs.Until.{turn_of, pushed, kept};
-ghost use Rattle.hs_grammar.specs.Words.{list_read, list_turn};
-ghost use Rattle.hs_forms.specs.Grammar as g;
-ghost use Rattle.hs_forms.specs.Reading.{reads};
+ghost use Rattle.hs_grammar.specs.Combinators.{list_read, list_turn};
+ghost use Rattle.hs_forms.specs.Reading as g;
+ghost use Rattle.hs_forms.specs.Parsers.{reads};
 
 use crate::parameter_forms::{params, result_type};
 use hs_forms::{Kind, Token, across, at, is_at_name, name};
@@ -19,7 +19,7 @@ use sqlite_items::Items;
 use std::alloc::Global;
 
 /// 'const' NAME ':' Type '=' Exp ';'
-#[tactic(auto, unfolding(hs_forms::specs::Grammar::const_form, hs_forms::specs::Grammar::name))]
+#[tactic(auto, unfolding(hs_forms::specs::Reading::const_form, hs_forms::specs::Reading::name))]
 fn const_form(
     alloc: Global,
     tokens: &mut Tokens<'_, Token>,
@@ -38,7 +38,7 @@ fn const_form(
 }
 
 /// 'type' NAME '=' Type ';'
-#[tactic(auto, unfolding(hs_forms::specs::Grammar::alias_form, hs_forms::specs::Grammar::name))]
+#[tactic(auto, unfolding(hs_forms::specs::Reading::alias_form, hs_forms::specs::Reading::name))]
 fn alias_form(
     alloc: Global,
     tokens: &mut Tokens<'_, Token>,
@@ -55,7 +55,7 @@ fn alias_form(
 }
 
 /// 'struct' NAME '(' list(Type) ')' ';'
-#[tactic(auto, unfolding(hs_forms::specs::Grammar::struct_form, hs_forms::specs::Grammar::name))]
+#[tactic(auto, unfolding(hs_forms::specs::Reading::struct_form, hs_forms::specs::Reading::name))]
 fn struct_form(
     alloc: Global,
     tokens: &mut Tokens<'_, Token>,
@@ -71,7 +71,7 @@ fn struct_form(
 }
 
 /// Ctor
-#[tactic(auto, unfolding(hs_forms::specs::Grammar::ctor, hs_forms::specs::Grammar::name, hs_forms::specs::Grammar::parts))]
+#[tactic(auto, unfolding(hs_forms::specs::Reading::ctor, hs_forms::specs::Reading::name, hs_forms::specs::Reading::parts))]
 fn ctor(alloc: Global, tokens: &mut Tokens<'_, Token>, depth: usize) -> Result<Ctor, ParseError>
     ensures { Reads (reads depth g.ctor tokens.old) result tokens.new }
 {
@@ -92,7 +92,7 @@ fn ctor(alloc: Global, tokens: &mut Tokens<'_, Token>, depth: usize) -> Result<C
 }
 
 /// list(Ctor)
-#[tactic(auto, unfolding(hs_forms::specs::Grammar::ctor, hs_forms::specs::Grammar::name))]
+#[tactic(auto, unfolding(hs_forms::specs::Reading::ctor, hs_forms::specs::Reading::name))]
 fn ctors(
     alloc: Global,
     tokens: &mut Tokens<'_, Token>,
@@ -120,7 +120,7 @@ fn ctors(
 }
 
 /// 'enum' NAME '{' list(Ctor) '}'
-#[tactic(auto, unfolding(hs_forms::specs::Grammar::enum_form, hs_forms::specs::Grammar::name))]
+#[tactic(auto, unfolding(hs_forms::specs::Reading::enum_form, hs_forms::specs::Reading::name))]
 fn enum_form(
     alloc: Global,
     tokens: &mut Tokens<'_, Token>,
@@ -137,7 +137,7 @@ fn enum_form(
 }
 
 /// 'fn' NAME '(' list(Param)? ')' ('->' Type)? Block
-#[tactic(auto, unfolding(hs_forms::specs::Grammar::fn_form, hs_forms::specs::Grammar::name, hs_syntax::specs::Spans::span_of_block))]
+#[tactic(auto, unfolding(hs_forms::specs::Reading::fn_form, hs_forms::specs::Reading::name, hs_syntax::specs::Spans::span_of_block))]
 fn fn_form(
     alloc: Global,
     tokens: &mut Tokens<'_, Token>,
@@ -155,7 +155,7 @@ fn fn_form(
 }
 
 /// What may have a derive list.
-#[tactic(auto, unfolding(hs_forms::specs::Grammar::data_form, hs_forms::specs::Grammar::struct_form))]
+#[tactic(auto, unfolding(hs_forms::specs::Reading::data_form, hs_forms::specs::Reading::struct_form))]
 pub fn data_form(
     alloc: Global,
     tokens: &mut Tokens<'_, Token>,
@@ -170,7 +170,7 @@ pub fn data_form(
 }
 
 /// What may have `pub`.
-#[tactic(auto, unfolding(hs_forms::specs::Grammar::declaration, hs_forms::specs::Grammar::const_form, hs_forms::specs::Grammar::alias_form, hs_forms::specs::Grammar::fn_form))]
+#[tactic(auto, unfolding(hs_forms::specs::Reading::declaration, hs_forms::specs::Reading::const_form, hs_forms::specs::Reading::alias_form, hs_forms::specs::Reading::fn_form))]
 pub fn declaration(
     alloc: Global,
     tokens: &mut Tokens<'_, Token>,

@@ -3,9 +3,9 @@
 ghost use Rattle.hs_grammar.specs.Parser.{giving};
 ghost use Rattle.hs_grammar.specs.Reads.{Reads};
 ghost use Rattle.hs_grammar.specs.Until.{turn_of, pushed, kept};
-ghost use Rattle.hs_grammar.specs.Words.{list_read, list_turn};
-ghost use Rattle.hs_forms.specs.Grammar as g;
-ghost use Rattle.hs_forms.specs.Reading.{reads};
+ghost use Rattle.hs_grammar.specs.Combinators.{list_read, list_turn};
+ghost use Rattle.hs_forms.specs.Reading as g;
+ghost use Rattle.hs_forms.specs.Parsers.{reads};
 ghost use Rattle.hs_parse_items.specs.Pieces.{derived_data};
 
 use crate::declaration_forms::{data_form, declaration};
@@ -19,7 +19,7 @@ use sqlite_items::Items;
 use std::alloc::Global;
 
 /// list(NAME)
-#[tactic(auto, unfolding(hs_forms::specs::Grammar::name))]
+#[tactic(auto, unfolding(hs_forms::specs::Reading::name))]
 fn names(alloc: Global, tokens: &mut Tokens<'_, Token>) -> Result<Items<Span>, ParseError>
     ensures { Reads (reads 0 (list_read g.comma g.name) tokens.old) result tokens.new }
 {
@@ -43,7 +43,7 @@ fn names(alloc: Global, tokens: &mut Tokens<'_, Token>) -> Result<Items<Span>, P
 }
 
 /// '[' 'derive' '(' list(NAME) ')' ']'
-#[tactic(auto, unfolding(hs_forms::specs::Grammar::derive_names))]
+#[tactic(auto, unfolding(hs_forms::specs::Reading::derive_names))]
 fn derive_names(alloc: Global, tokens: &mut Tokens<'_, Token>) -> Result<Items<Span>, ParseError>
     ensures { Reads (reads 0 g.derive_names tokens.old) result tokens.new }
 {
@@ -72,7 +72,7 @@ fn derived_data(
 }
 
 /// An item with a derive list, which begins with its '#'.
-#[tactic(auto, unfolding(hs_forms::specs::Grammar::derived_item, hs_forms::specs::Grammar::derive_names, hs_forms::specs::Grammar::name))]
+#[tactic(auto, unfolding(hs_forms::specs::Reading::derived_item, hs_forms::specs::Reading::derive_names, hs_forms::specs::Reading::name))]
 fn derived_item(
     alloc: Global,
     tokens: &mut Tokens<'_, Token>,
@@ -91,7 +91,7 @@ fn derived_item(
 }
 
 /// An item with `pub`.
-#[tactic(auto, unfolding(hs_forms::specs::Grammar::public_item))]
+#[tactic(auto, unfolding(hs_forms::specs::Reading::public_item))]
 fn public_item(
     alloc: Global,
     tokens: &mut Tokens<'_, Token>,
@@ -109,7 +109,7 @@ fn public_item(
 }
 
 /// An item without.
-#[tactic(auto, unfolding(hs_forms::specs::Grammar::plain_item))]
+#[tactic(auto, unfolding(hs_forms::specs::Reading::plain_item))]
 fn plain_item(
     alloc: Global,
     tokens: &mut Tokens<'_, Token>,
@@ -126,7 +126,7 @@ fn plain_item(
 }
 
 /// What never has `pub` nor a derive list.
-#[tactic(auto, unfolding(hs_forms::specs::Grammar::other_item))]
+#[tactic(auto, unfolding(hs_forms::specs::Reading::other_item))]
 fn other_item(
     alloc: Global,
     tokens: &mut Tokens<'_, Token>,
@@ -143,7 +143,7 @@ fn other_item(
 }
 
 /// Item
-#[tactic(auto, unfolding(hs_forms::specs::Grammar::item_form, hs_forms::specs::Grammar::derived_item, hs_forms::specs::Grammar::public_item, hs_forms::specs::Grammar::other_item, hs_forms::specs::Grammar::use_form, hs_forms::specs::Grammar::array_form, hs_forms::specs::Grammar::bytes_form, hs_forms::specs::Grammar::nat_mod_form))]
+#[tactic(auto, unfolding(hs_forms::specs::Reading::item_form, hs_forms::specs::Reading::derived_item, hs_forms::specs::Reading::public_item, hs_forms::specs::Reading::other_item, hs_forms::specs::Reading::use_form, hs_forms::specs::Reading::array_form, hs_forms::specs::Reading::bytes_form, hs_forms::specs::Reading::nat_mod_form))]
 fn item_form(
     alloc: Global,
     tokens: &mut Tokens<'_, Token>,

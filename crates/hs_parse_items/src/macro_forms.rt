@@ -2,8 +2,8 @@
 //! and its clause names the depth 0.
 
 ghost use Rattle.hs_grammar.specs.Reads.{Reads};
-ghost use Rattle.hs_forms.specs.Grammar as g;
-ghost use Rattle.hs_forms.specs.Reading.{reads};
+ghost use Rattle.hs_forms.specs.Reading as g;
+ghost use Rattle.hs_forms.specs.Parsers.{reads};
 ghost use Rattle.hs_parse_items.specs.Pieces.{other_form};
 
 use hs_forms::{Kind, Token, across, at, int, name};
@@ -14,7 +14,7 @@ use hs_syntax::{Int, ItemKind, Span};
 use std::alloc::Global;
 
 /// 'use' 'hacspec_lib' '::' '*' ';'
-#[tactic(auto, unfolding(hs_forms::specs::Grammar::use_form))]
+#[tactic(auto, unfolding(hs_forms::specs::Reading::use_form))]
 fn use_form(tokens: &mut Tokens<'_, Token>) -> Result<(ItemKind, Span), ParseError>
     ensures { Reads (reads 0 g.use_form tokens.old) result tokens.new }
 {
@@ -27,7 +27,7 @@ fn use_form(tokens: &mut Tokens<'_, Token>) -> Result<(ItemKind, Span), ParseErr
 }
 
 /// 'array' '!' '(' NAME ',' INT ',' Type ')' ';'
-#[tactic(auto, unfolding(hs_forms::specs::Grammar::array_form, hs_forms::specs::Grammar::name, hs_forms::specs::Grammar::int))]
+#[tactic(auto, unfolding(hs_forms::specs::Reading::array_form, hs_forms::specs::Reading::name, hs_forms::specs::Reading::int))]
 fn array_form(
     alloc: Global,
     tokens: &mut Tokens<'_, Token>,
@@ -49,7 +49,7 @@ fn array_form(
 }
 
 /// 'bytes' '!' '(' NAME ',' INT ')' ';'
-#[tactic(auto, unfolding(hs_forms::specs::Grammar::bytes_form, hs_forms::specs::Grammar::name, hs_forms::specs::Grammar::int))]
+#[tactic(auto, unfolding(hs_forms::specs::Reading::bytes_form, hs_forms::specs::Reading::name, hs_forms::specs::Reading::int))]
 fn bytes_form(tokens: &mut Tokens<'_, Token>) -> Result<(ItemKind, Span), ParseError>
     ensures { Reads (reads 0 g.bytes_form tokens.old) result tokens.new }
 {
@@ -65,7 +65,7 @@ fn bytes_form(tokens: &mut Tokens<'_, Token>) -> Result<(ItemKind, Span), ParseE
 }
 
 /// 'type_name' ':' NAME ',' 'type_of_canvas' ':' NAME ','
-#[tactic(auto, unfolding(hs_forms::specs::Grammar::nat_mod_names, hs_forms::specs::Grammar::name))]
+#[tactic(auto, unfolding(hs_forms::specs::Reading::nat_mod_names, hs_forms::specs::Reading::name))]
 fn nat_mod_names(tokens: &mut Tokens<'_, Token>) -> Result<(Span, Span), ParseError>
     ensures { Reads (reads 0 g.nat_mod_names tokens.old) result tokens.new }
 {
@@ -81,7 +81,7 @@ fn nat_mod_names(tokens: &mut Tokens<'_, Token>) -> Result<(Span, Span), ParseEr
 }
 
 /// 'bit_size_of_field' ':' INT ',' 'modulo_value' ':' STRING
-#[tactic(auto, unfolding(hs_forms::specs::Grammar::nat_mod_values, hs_forms::specs::Grammar::int))]
+#[tactic(auto, unfolding(hs_forms::specs::Reading::nat_mod_values, hs_forms::specs::Reading::int))]
 fn nat_mod_values(tokens: &mut Tokens<'_, Token>) -> Result<(Int, Span), ParseError>
     ensures { Reads (reads 0 g.nat_mod_values tokens.old) result tokens.new }
 {
@@ -97,7 +97,7 @@ fn nat_mod_values(tokens: &mut Tokens<'_, Token>) -> Result<(Int, Span), ParseEr
 
 /// 'nat_mod' '!' '(' 'type_name' ':' NAME ',' 'type_of_canvas' ':' NAME ',' 'bit_size_of_field' ':' INT ',' 'modulo_value'
 /// ':' STRING ')' ';'
-#[tactic(auto, unfolding(hs_forms::specs::Grammar::nat_mod_form))]
+#[tactic(auto, unfolding(hs_forms::specs::Reading::nat_mod_form))]
 fn nat_mod_form(tokens: &mut Tokens<'_, Token>) -> Result<(ItemKind, Span), ParseError>
     ensures { Reads (reads 0 g.nat_mod_form tokens.old) result tokens.new }
 {
@@ -113,7 +113,7 @@ fn nat_mod_form(tokens: &mut Tokens<'_, Token>) -> Result<(ItemKind, Span), Pars
 }
 
 /// What never has `pub` nor a derive list.
-#[tactic(auto, unfolding(hs_forms::specs::Grammar::use_form, hs_forms::specs::Grammar::array_form, hs_forms::specs::Grammar::bytes_form, hs_forms::specs::Grammar::nat_mod_form, hs_forms::specs::Grammar::nat_mod_names, hs_forms::specs::Grammar::nat_mod_values, hs_forms::specs::Grammar::name, hs_forms::specs::Grammar::int))]
+#[tactic(auto, unfolding(hs_forms::specs::Reading::use_form, hs_forms::specs::Reading::array_form, hs_forms::specs::Reading::bytes_form, hs_forms::specs::Reading::nat_mod_form, hs_forms::specs::Reading::nat_mod_names, hs_forms::specs::Reading::nat_mod_values, hs_forms::specs::Reading::name, hs_forms::specs::Reading::int))]
 pub fn other_form(
     alloc: Global,
     tokens: &mut Tokens<'_, Token>,

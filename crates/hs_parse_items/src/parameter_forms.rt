@@ -6,10 +6,10 @@ ghost use Rattle.hs_grammar.specs.Lookahead.{begin};
 ghost use Rattle.hs_grammar.specs.Parser.{giving};
 ghost use Rattle.hs_grammar.specs.Reads.{Reads};
 ghost use Rattle.hs_grammar.specs.Until.{turn_of, pushed, kept};
-ghost use Rattle.hs_grammar.specs.Words.{list_read, list_turn};
+ghost use Rattle.hs_grammar.specs.Combinators.{list_read, list_turn};
 ghost use Rattle.hs_forms.specs.Lexis.{lexis};
-ghost use Rattle.hs_forms.specs.Grammar as g;
-ghost use Rattle.hs_forms.specs.Reading.{reads};
+ghost use Rattle.hs_forms.specs.Reading as g;
+ghost use Rattle.hs_forms.specs.Parsers.{reads};
 
 use hs_forms::{Kind, Token, across, at, is_at_name, name};
 use hs_grammar::cursor::Tokens;
@@ -21,7 +21,7 @@ use sqlite_items::Items;
 use std::alloc::Global;
 
 /// 'mut' NAME ':' Type
-#[tactic(auto, unfolding(hs_forms::specs::Grammar::mutable_param, hs_forms::specs::Grammar::name))]
+#[tactic(auto, unfolding(hs_forms::specs::Reading::mutable_param, hs_forms::specs::Reading::name))]
 fn mutable_param(
     alloc: Global,
     tokens: &mut Tokens<'_, Token>,
@@ -42,7 +42,7 @@ fn mutable_param(
 }
 
 /// '&' 'mut'? Type
-#[tactic(auto, unfolding(hs_forms::specs::Grammar::lent_type))]
+#[tactic(auto, unfolding(hs_forms::specs::Reading::lent_type))]
 fn lent_type(
     alloc: Global,
     tokens: &mut Tokens<'_, Token>,
@@ -59,7 +59,7 @@ fn lent_type(
 }
 
 /// What stands behind ':' in a parameter: Type | '&' 'mut'? Type
-#[tactic(auto, unfolding(hs_forms::specs::Grammar::mode_type, hs_forms::specs::Grammar::lent_type))]
+#[tactic(auto, unfolding(hs_forms::specs::Reading::mode_type, hs_forms::specs::Reading::lent_type))]
 fn mode_type(
     alloc: Global,
     tokens: &mut Tokens<'_, Token>,
@@ -74,7 +74,7 @@ fn mode_type(
 }
 
 /// NAME ':' Type | NAME ':' '&' 'mut'? Type
-#[tactic(auto, unfolding(hs_forms::specs::Grammar::named_param, hs_forms::specs::Grammar::name))]
+#[tactic(auto, unfolding(hs_forms::specs::Reading::named_param, hs_forms::specs::Reading::name))]
 fn named_param(
     alloc: Global,
     tokens: &mut Tokens<'_, Token>,
@@ -94,7 +94,7 @@ fn named_param(
 }
 
 /// Param
-#[tactic(auto, unfolding(hs_forms::specs::Grammar::param, hs_forms::specs::Grammar::mutable_param))]
+#[tactic(auto, unfolding(hs_forms::specs::Reading::param, hs_forms::specs::Reading::mutable_param))]
 fn param(alloc: Global, tokens: &mut Tokens<'_, Token>, depth: usize) -> Result<Param, ParseError>
     ensures { Reads (reads depth g.param tokens.old) result tokens.new }
 {
@@ -105,7 +105,7 @@ fn param(alloc: Global, tokens: &mut Tokens<'_, Token>, depth: usize) -> Result<
 }
 
 /// Whether a parameter begins.
-#[tactic(auto, unfolding(hs_forms::specs::Grammar::param, hs_forms::specs::Grammar::mutable_param, hs_forms::specs::Grammar::named_param, hs_forms::specs::Grammar::name))]
+#[tactic(auto, unfolding(hs_forms::specs::Reading::param, hs_forms::specs::Reading::mutable_param, hs_forms::specs::Reading::named_param, hs_forms::specs::Reading::name))]
 fn is_at_param(tokens: &Tokens<'_, Token>) -> bool
     ensures { result ≡ starts lexis (begin g.tables g.param) tokens.now }
 {
@@ -140,7 +140,7 @@ fn param_list(
 }
 
 /// What stands behind '(' in a function: ')' | list(Param) ')'
-#[tactic(auto, unfolding(hs_forms::specs::Grammar::params_rest))]
+#[tactic(auto, unfolding(hs_forms::specs::Reading::params_rest))]
 fn params_rest(
     alloc: Global,
     tokens: &mut Tokens<'_, Token>,
@@ -158,7 +158,7 @@ fn params_rest(
 }
 
 /// '(' list(Param)? ')'
-#[tactic(auto, unfolding(hs_forms::specs::Grammar::params))]
+#[tactic(auto, unfolding(hs_forms::specs::Reading::params))]
 pub fn params(
     alloc: Global,
     tokens: &mut Tokens<'_, Token>,
@@ -171,7 +171,7 @@ pub fn params(
 }
 
 /// ('->' Type)?
-#[tactic(auto, unfolding(hs_forms::specs::Grammar::result_type))]
+#[tactic(auto, unfolding(hs_forms::specs::Reading::result_type))]
 pub fn result_type(
     alloc: Global,
     tokens: &mut Tokens<'_, Token>,

@@ -14,8 +14,8 @@ use Rattle.hs_forms.specs.declared.token.Token.{Token}
 use Rattle.hs_forms.specs.Lexis.{lexis}
 use Rattle.hs_forms.specs.Nodes.{all_types}
 use Rattle.hs_forms.specs.Blocks.{step_of}
-use Rattle.hs_forms.specs.Grammar.{F, grammar, tables, next_type, next_types}
-use Rattle.hs_forms.specs.Reading.{reads}
+use Rattle.hs_forms.specs.Reading.{F, grammar, tables, next_type, next_types}
+use Rattle.hs_forms.specs.Parsers.{reads}
 use Rattle.hs_parse_types.specs.Lists.{one_more, last_one}
 
 -- a turn: a further type, which may be open

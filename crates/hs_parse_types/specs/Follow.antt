@@ -2,8 +2,8 @@
 use Rattle.std.specs.Prelude.{Bool}
 use Rattle.hs_syntax.specs.declared.ty.Ty.{Ty}
 use Rattle.hs_syntax.specs.declared.pat.Pat.{Pat}
-use Rattle.hs_forms.specs.Grammar.{RType, RMaybe, RPat}
-use Rattle.hs_forms.specs.Reading.{Parser, Parses}
+use Rattle.hs_forms.specs.Reading.{RType, RMaybe, RPat}
+use Rattle.hs_forms.specs.Parsers.{Parser, Parses}
 use Rattle.hs_parse_types.specs.declared.type_forms.TypeRules.{TypeRules}
 use Rattle.hs_parse_types.specs.declared.pattern_forms.PatternRules.{PatternRules}
 

@@ -3,12 +3,12 @@
 ghost use Rattle.std.specs.Prelude.{◌≡◌};
 ghost use Rattle.hs_grammar.specs.Kinds.{starts};
 ghost use Rattle.hs_grammar.specs.Parser.{giving};
-ghost use Rattle.hs_grammar.specs.Words.{optional, list_read, list_turn};
+ghost use Rattle.hs_grammar.specs.Combinators.{optional, list_read, list_turn};
 ghost use Rattle.hs_grammar.specs.Reads.{Reads};
 ghost use Rattle.hs_grammar.specs.Until.{turn_of, pushed, kept};
 ghost use Rattle.hs_forms.specs.Lexis.{lexis};
-ghost use Rattle.hs_forms.specs.Grammar as g;
-ghost use Rattle.hs_forms.specs.Reading.{reads};
+ghost use Rattle.hs_forms.specs.Reading as g;
+ghost use Rattle.hs_forms.specs.Parsers.{reads};
 ghost use Rattle.hs_parse_types.specs.Follow.{FollowPatterns};
 
 use crate::items::alone;
@@ -72,7 +72,7 @@ impl<P: Fn(Global, &mut Tokens<'_, Token>, usize) -> Result<Pat, ParseError>> Pa
     }
 
     /// '(' list(Pat) ')'
-    #[tactic(auto, unfolding(hs_forms::specs::Grammar::patterns))]
+    #[tactic(auto, unfolding(hs_forms::specs::Reading::patterns))]
     fn patterns(&self, tokens: &mut Tokens<'_, Token>) -> Result<(Items<Pat>, Span), ParseError>
         requires { FollowPatterns P.Fn self.now }
         ensures { Reads (reads self.now.depth g.patterns tokens.old) result tokens.new }
@@ -84,7 +84,7 @@ impl<P: Fn(Global, &mut Tokens<'_, Token>, usize) -> Result<Pat, ParseError>> Pa
     }
 
     /// ('(' list(Pat) ')')?
-    #[tactic(auto, unfolding(hs_forms::specs::Grammar::patterns))]
+    #[tactic(auto, unfolding(hs_forms::specs::Reading::patterns))]
     fn perhaps_patterns(
         &self,
         tokens: &mut Tokens<'_, Token>,
@@ -99,7 +99,7 @@ impl<P: Fn(Global, &mut Tokens<'_, Token>, usize) -> Result<Pat, ParseError>> Pa
     }
 
     /// NAME | NAME '(' list(Pat) ')'
-    #[tactic(auto, unfolding(hs_forms::specs::Grammar::named_pattern, hs_forms::specs::Grammar::name))]
+    #[tactic(auto, unfolding(hs_forms::specs::Reading::named_pattern, hs_forms::specs::Reading::name))]
     fn named_pattern(&self, tokens: &mut Tokens<'_, Token>) -> Result<Pat, ParseError>
         requires { FollowPatterns P.Fn self.now }
         ensures { Reads (reads self.now.depth g.named_pattern tokens.old) result tokens.new }
@@ -112,7 +112,7 @@ impl<P: Fn(Global, &mut Tokens<'_, Token>, usize) -> Result<Pat, ParseError>> Pa
     }
 
     /// 'mut' NAME
-    #[tactic(auto, unfolding(hs_forms::specs::Grammar::mutable_pattern, hs_forms::specs::Grammar::name))]
+    #[tactic(auto, unfolding(hs_forms::specs::Reading::mutable_pattern, hs_forms::specs::Reading::name))]
     fn mutable_pattern(&self, tokens: &mut Tokens<'_, Token>) -> Result<Pat, ParseError>
         ensures { Reads (reads self.now.depth g.mutable_pattern tokens.old) result tokens.new }
     {
@@ -122,7 +122,7 @@ impl<P: Fn(Global, &mut Tokens<'_, Token>, usize) -> Result<Pat, ParseError>> Pa
     }
 
     /// '(' Pat ',' list(Pat) ')'
-    #[tactic(auto, unfolding(hs_forms::specs::Grammar::tuple_pattern))]
+    #[tactic(auto, unfolding(hs_forms::specs::Reading::tuple_pattern))]
     fn tuple_pattern(&self, tokens: &mut Tokens<'_, Token>) -> Result<Pat, ParseError>
         requires { FollowPatterns P.Fn self.now }
         ensures { Reads (reads self.now.depth g.tuple_pattern tokens.old) result tokens.new }
@@ -136,7 +136,7 @@ impl<P: Fn(Global, &mut Tokens<'_, Token>, usize) -> Result<Pat, ParseError>> Pa
     }
 
     /// Pat, by its form.
-    #[tactic(auto, unfolding(hs_forms::specs::Grammar::pat_form, hs_forms::specs::Grammar::mutable_pattern, hs_forms::specs::Grammar::tuple_pattern))]
+    #[tactic(auto, unfolding(hs_forms::specs::Reading::pat_form, hs_forms::specs::Reading::mutable_pattern, hs_forms::specs::Reading::tuple_pattern))]
     fn pat_form(&self, tokens: &mut Tokens<'_, Token>) -> Result<Pat, ParseError>
         requires { FollowPatterns P.Fn self.now }
         ensures { Reads (reads self.now.depth g.pat_form tokens.old) result tokens.new }
@@ -154,7 +154,7 @@ impl<P: Fn(Global, &mut Tokens<'_, Token>, usize) -> Result<Pat, ParseError>> Pa
     }
 
     /// '::' NAME ('(' list(Pat) ')')?, behind the name of a type.
-    #[tactic(auto, unfolding(hs_forms::specs::Grammar::member_pattern, hs_forms::specs::Grammar::name))]
+    #[tactic(auto, unfolding(hs_forms::specs::Reading::member_pattern, hs_forms::specs::Reading::name))]
     fn member_pattern(&self, tokens: &mut Tokens<'_, Token>, of: Span) -> Result<ArmPat, ParseError>
         requires { FollowPatterns P.Fn self.now }
         ensures { Reads (giving (λ f. f of) (reads self.now.depth g.member_pattern tokens.old)) result tokens.new }
@@ -168,7 +168,7 @@ impl<P: Fn(Global, &mut Tokens<'_, Token>, usize) -> Result<Pat, ParseError>> Pa
     }
 
     /// What stands behind the first name of an arm's pattern.
-    #[tactic(auto, unfolding(hs_forms::specs::Grammar::behind_ctor, hs_forms::specs::Grammar::member_pattern))]
+    #[tactic(auto, unfolding(hs_forms::specs::Reading::behind_ctor, hs_forms::specs::Reading::member_pattern))]
     fn behind_ctor(&self, tokens: &mut Tokens<'_, Token>, name: Span) -> Result<ArmPat, ParseError>
         requires { FollowPatterns P.Fn self.now }
         ensures { Reads (giving (λ f. f name) (reads self.now.depth g.behind_ctor tokens.old)) result tokens.new }
@@ -183,7 +183,7 @@ impl<P: Fn(Global, &mut Tokens<'_, Token>, usize) -> Result<Pat, ParseError>> Pa
     }
 
     /// ArmPat
-    #[tactic(auto, unfolding(hs_forms::specs::Grammar::arm_pattern, hs_forms::specs::Grammar::name))]
+    #[tactic(auto, unfolding(hs_forms::specs::Reading::arm_pattern, hs_forms::specs::Reading::name))]
     fn arm_pattern(&self, tokens: &mut Tokens<'_, Token>) -> Result<ArmPat, ParseError>
         requires { FollowPatterns P.Fn self.now }
         ensures { Reads (reads self.now.depth g.arm_pattern tokens.old) result tokens.new }

@@ -3,15 +3,15 @@
 ghost use Rattle.std.specs.Prelude.{◌≡◌, false};
 ghost use Rattle.hs_grammar.specs.Kinds.{starts};
 ghost use Rattle.hs_grammar.specs.Parser.{giving};
-ghost use Rattle.hs_grammar.specs.Words.{rule, list_read, list_turn};
+ghost use Rattle.hs_grammar.specs.Combinators.{rule, list_read, list_turn};
 ghost use Rattle.hs_grammar.specs.Form.{Map};
 ghost use Rattle.hs_grammar.specs.Reads.{Reads};
 ghost use Rattle.hs_grammar.specs.Until.{turn_of, pushed, kept};
 ghost use Rattle.hs_forms.specs.Lexis.{lexis};
 ghost use Rattle.hs_forms.specs.Nodes.{all_types};
 ghost use Rattle.hs_forms.specs.Blocks.{step_of};
-ghost use Rattle.hs_forms.specs.Grammar as g;
-ghost use Rattle.hs_forms.specs.Reading.{reads};
+ghost use Rattle.hs_forms.specs.Reading as g;
+ghost use Rattle.hs_forms.specs.Parsers.{reads};
 ghost use Rattle.hs_parse_types.specs.Follow.{FollowTypes};
 ghost use Rattle.hs_parse_types.specs.Lists.{one_more, last_one};
 
@@ -88,7 +88,7 @@ impl<
     }
 
     /// '(' list(Type) ')'
-    #[tactic(auto, unfolding(hs_forms::specs::Grammar::parts))]
+    #[tactic(auto, unfolding(hs_forms::specs::Reading::parts))]
     fn parts(&self, tokens: &mut Tokens<'_, Token>) -> Result<(Items<Ty>, Span), ParseError>
         requires { FollowTypes T.Fn M.Fn self.now }
         ensures { Reads (reads self.now.depth g.parts tokens.old) result tokens.new }
@@ -100,7 +100,7 @@ impl<
     }
 
     /// ',' Type, where the last may be open.
-    #[tactic(auto, unfolding(hs_forms::specs::Grammar::next_type))]
+    #[tactic(auto, unfolding(hs_forms::specs::Reading::next_type))]
     fn next_type(&self, tokens: &mut Tokens<'_, Token>) -> Result<(Ty, bool), ParseError>
         requires { FollowTypes T.Fn M.Fn self.now }
         ensures { Reads (reads self.now.depth g.next_type tokens.old) result tokens.new }
@@ -139,7 +139,7 @@ impl<
     }
 
     /// Type (',' Type)*, and whether the last is open.
-    #[tactic(auto, unfolding(hs_forms::specs::Grammar::types))]
+    #[tactic(auto, unfolding(hs_forms::specs::Reading::types))]
     fn types(&self, tokens: &mut Tokens<'_, Token>) -> Result<(Items<Ty>, bool), ParseError>
         requires { FollowTypes T.Fn M.Fn self.now }
         ensures { Reads (reads self.now.depth g.types tokens.old) result tokens.new }
@@ -152,7 +152,7 @@ impl<
     }
 
     /// '<' Type (',' Type)*
-    #[tactic(auto, unfolding(hs_forms::specs::Grammar::angle))]
+    #[tactic(auto, unfolding(hs_forms::specs::Reading::angle))]
     fn angle(&self, tokens: &mut Tokens<'_, Token>) -> Result<(Items<Ty>, bool), ParseError>
         requires { FollowTypes T.Fn M.Fn self.now }
         ensures { Reads (reads self.now.depth g.angle tokens.old) result tokens.new }
@@ -162,7 +162,7 @@ impl<
     }
 
     /// What stands behind the name of an applied type, up to its bracket.
-    #[tactic(auto, unfolding(hs_forms::specs::Grammar::closed))]
+    #[tactic(auto, unfolding(hs_forms::specs::Reading::closed))]
     fn closed(&self, tokens: &mut Tokens<'_, Token>, name: Span) -> Result<Ty, ParseError>
         requires { FollowTypes T.Fn M.Fn self.now }
         ensures { Reads (giving (λ f. f name) (reads self.now.depth g.closed tokens.old)) result tokens.new }
@@ -177,7 +177,7 @@ impl<
     }
 
     /// '>', or the first half of a `>>`, which leaves the type open.
-    #[tactic(auto, unfolding(hs_forms::specs::Grammar::close_maybe))]
+    #[tactic(auto, unfolding(hs_forms::specs::Reading::close_maybe))]
     fn close_maybe(&self, tokens: &mut Tokens<'_, Token>) -> Result<(Span, bool), ParseError>
         ensures { Reads (reads self.now.depth g.close_maybe tokens.old) result tokens.new }
     {
@@ -188,7 +188,7 @@ impl<
     }
 
     /// What stands behind the name of an applied type that may be open.
-    #[tactic(auto, unfolding(hs_forms::specs::Grammar::maybe_closed))]
+    #[tactic(auto, unfolding(hs_forms::specs::Reading::maybe_closed))]
     fn maybe_closed(
         &self,
         tokens: &mut Tokens<'_, Token>,
@@ -207,7 +207,7 @@ impl<
     }
 
     /// Type ',' list(Type) ')', behind this '('.
-    #[tactic(auto, unfolding(hs_forms::specs::Grammar::tuple_items))]
+    #[tactic(auto, unfolding(hs_forms::specs::Reading::tuple_items))]
     fn tuple_items(&self, tokens: &mut Tokens<'_, Token>, first: Span) -> Result<Ty, ParseError>
         requires { FollowTypes T.Fn M.Fn self.now }
         ensures { Reads (giving (λ f. f first) (reads self.now.depth g.tuple_items tokens.old)) result tokens.new }
@@ -221,7 +221,7 @@ impl<
     }
 
     /// What stands behind this '(': ')' | Type ',' list(Type) ')'
-    #[tactic(auto, unfolding(hs_forms::specs::Grammar::tuple_rest))]
+    #[tactic(auto, unfolding(hs_forms::specs::Reading::tuple_rest))]
     fn tuple_rest(&self, tokens: &mut Tokens<'_, Token>, first: Span) -> Result<Ty, ParseError>
         requires { FollowTypes T.Fn M.Fn self.now }
         ensures { Reads (giving (λ f. f first) (reads self.now.depth g.tuple_rest tokens.old)) result tokens.new }
@@ -234,7 +234,7 @@ impl<
     }
 
     /// '(' ')' | '(' Type ',' list(Type) ')'
-    #[tactic(auto, unfolding(hs_forms::specs::Grammar::bracketed))]
+    #[tactic(auto, unfolding(hs_forms::specs::Reading::bracketed))]
     fn bracketed(&self, tokens: &mut Tokens<'_, Token>) -> Result<Ty, ParseError>
         requires { FollowTypes T.Fn M.Fn self.now }
         ensures { Reads (reads self.now.depth g.bracketed tokens.old) result tokens.new }
@@ -244,7 +244,7 @@ impl<
     }
 
     /// Type, by its form.
-    #[tactic(auto, unfolding(hs_forms::specs::Grammar::type_form, hs_forms::specs::Grammar::bracketed, hs_forms::specs::Grammar::name, hs_forms::specs::Grammar::closed, hs_forms::specs::Grammar::angle))]
+    #[tactic(auto, unfolding(hs_forms::specs::Reading::type_form, hs_forms::specs::Reading::bracketed, hs_forms::specs::Reading::name, hs_forms::specs::Reading::closed, hs_forms::specs::Reading::angle))]
     fn type_form(&self, tokens: &mut Tokens<'_, Token>) -> Result<Ty, ParseError>
         requires { FollowTypes T.Fn M.Fn self.now }
         ensures { Reads (reads self.now.depth g.type_form tokens.old) result tokens.new }
@@ -260,7 +260,7 @@ impl<
     }
 
     /// A type that may be open, by its form.
-    #[tactic(auto, unfolding(hs_forms::specs::Grammar::maybe_form, hs_forms::specs::Grammar::bracketed, hs_forms::specs::Grammar::name, hs_forms::specs::Grammar::maybe_closed, hs_forms::specs::Grammar::angle))]
+    #[tactic(auto, unfolding(hs_forms::specs::Reading::maybe_form, hs_forms::specs::Reading::bracketed, hs_forms::specs::Reading::name, hs_forms::specs::Reading::maybe_closed, hs_forms::specs::Reading::angle))]
     fn maybe_form(&self, tokens: &mut Tokens<'_, Token>) -> Result<(Ty, bool), ParseError>
         requires { FollowTypes T.Fn M.Fn self.now }
         ensures { Reads (reads self.now.depth g.maybe_form tokens.old) result tokens.new }

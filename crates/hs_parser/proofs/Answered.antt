@@ -9,9 +9,9 @@ use Rattle.hs_syntax.specs.declared.item.Item.{Item}
 use Rattle.hs_syntax.specs.declared.file.File.{File}
 use Rattle.hs_marks.specs.declared.breach.Breach.{Breach}
 use Rattle.hs_marks.specs.Told.{Told as IsTold}
-use Rattle.hs_limits.specs.Told.{marks_of}
+use Rattle.hs_limits.specs.Breaks.{marks_of}
 use Rattle.hs_forms.specs.declared.token.Token.{Token}
-use Rattle.hs_forms.specs.Grammar.{RFile}
+use Rattle.hs_forms.specs.Reading.{RFile}
 use Rattle.hs_forms.specs.Written.{written}
 use Rattle.hs_parser.specs.declared.stop.ParseStop.{ParseStop}
 use Rattle.hs_parser.specs.declared.stop.ParseStop.TheVariants as stop

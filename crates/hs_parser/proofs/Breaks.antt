@@ -3,7 +3,7 @@ use Rattle.std.proofs.Common.{◌≡◌, ◌⊎◌, inl, inr, ℕ, List, [], ◌
 use Rattle.hs_grammar.specs.Break.{Breaks, CannotGoOn}
 use Rattle.hs_grammar.specs.Whole.{ParseBreak}
 use Rattle.hs_forms.specs.declared.token.Token.{Token}
-use Rattle.hs_forms.specs.Grammar.{RFile}
+use Rattle.hs_forms.specs.Reading.{RFile}
 use Rattle.hs_forms.specs.Written.{written}
 
 -- of two fronts of a list one is a front of the other

@@ -1,7 +1,7 @@
 -- How often a rule leads to another before a token has been read.
 use Rattle.std.proofs.Common.{◌≡◌, ℕ, ◌<◌, arith, true, refl}
 use Rattle.hs_grammar.specs.Depth.{leads_below, Ranked}
-use Rattle.hs_forms.specs.Grammar.{Rule, RFile, RType, RMaybe, RPat, RExp, RUnary, RBlock, RIf, ROpen, RPlace, RPlaced, grammar, tables, name, int, next_type, next_types, types, angle, closed, close_maybe, maybe_closed, tuple_items, tuple_rest, bracketed, type_form, maybe_form, patterns, named_pattern, mutable_pattern, tuple_pattern, pat_form, member_pattern, behind_ctor, arm_pattern, path_type, path_of_type, behind_separator, path_form, lent, lent_arg, list_arg, arg_form, args_rest, args, call_form, behind_first, grouped_rest, grouped, else_branch, else_form, if_form, block_value, exp_value, arm_form, next_arms, arms, match_form, literal, alone, prim, method, behind_dot, index, postfix_form, post, unary, cast, operator, operand, operands, binary, pieces, block_form, mutable_param, lent_type, mode_type, named_param, param, parts, ctor, const_form, alias_form, struct_form, enum_form, params_rest, params, result_type, fn_form, data_form, declaration, derive_names, derived_item, public_item, plain_item, use_form, array_form, bytes_form, nat_mod_names, nat_mod_values, nat_mod_form, other_item, item_form, file_form, open_form, step_form, place_form, placed_form}
+use Rattle.hs_forms.specs.Reading.{Rule, RFile, RType, RMaybe, RPat, RExp, RUnary, RBlock, RIf, ROpen, RPlace, RPlaced, grammar, tables, name, int, next_type, next_types, types, angle, closed, close_maybe, maybe_closed, tuple_items, tuple_rest, bracketed, type_form, maybe_form, patterns, named_pattern, mutable_pattern, tuple_pattern, pat_form, member_pattern, behind_ctor, arm_pattern, path_type, path_of_type, behind_separator, path_form, lent, lent_arg, list_arg, arg_form, args_rest, args, call_form, behind_first, grouped_rest, grouped, else_branch, else_form, if_form, block_value, exp_value, arm_form, next_arms, arms, match_form, literal, alone, prim, method, behind_dot, index, postfix_form, post, unary, cast, operator, operand, operands, binary, pieces, block_form, mutable_param, lent_type, mode_type, named_param, param, parts, ctor, const_form, alias_form, struct_form, enum_form, params_rest, params, result_type, fn_form, data_form, declaration, derive_names, derived_item, public_item, plain_item, use_form, array_form, bytes_form, nat_mod_names, nat_mod_values, nat_mod_form, other_item, item_form, file_form, open_form, step_form, place_form, placed_form}
 
 -- an expression leads to a block, and nothing else leads to a rule before a token has been read
 abbrev pub rank : Rule → ℕ

@@ -7,7 +7,7 @@ use Rattle.hs_forms.specs.declared.token.Kind.{Kind}
 use Rattle.hs_forms.specs.declared.token.Kind.TheVariants as k
 use Rattle.hs_forms.specs.declared.token.Token.{Token}
 use Rattle.hs_forms.specs.Lexis.{lexis, same}
-use Rattle.hs_forms.specs.Grammar.{name_kinds}
+use Rattle.hs_forms.specs.Reading.{name_kinds}
 
 -- the brackets
 abbrev pub opening : List Kind

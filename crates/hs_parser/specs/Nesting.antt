@@ -5,7 +5,7 @@ use Rattle.hs_forms.specs.declared.token.Kind.{Kind}
 use Rattle.hs_forms.specs.declared.token.Kind.TheVariants as k
 use Rattle.hs_forms.specs.declared.token.Token.{Token}
 use Rattle.hs_forms.specs.Lexis.{lexis, same}
-use Rattle.hs_forms.specs.Grammar.{assign_kinds, is_name}
+use Rattle.hs_forms.specs.Reading.{assign_kinds, is_name}
 use Rattle.hs_parser.specs.BreakRule.{opens, closes}
 
 -- prefixes and operators, but comparisons

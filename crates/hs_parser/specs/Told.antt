@@ -8,10 +8,10 @@ use Rattle.hs_lexer.specs.declared.token.Token.{Token as Spelled}
 use Rattle.hs_syntax.specs.declared.file.File.{File}
 use Rattle.hs_marks.specs.declared.breach.Breach.{Breach}
 use Rattle.hs_marks.specs.Told.{Told as IsTold}
-use Rattle.hs_limits.specs.Told.{marks_of}
+use Rattle.hs_limits.specs.Breaks.{marks_of}
 use Rattle.hs_forms.specs.declared.token.Token.{Token}
 use Rattle.hs_forms.specs.Tokens.{tokens_of}
-use Rattle.hs_forms.specs.Grammar.{RFile}
+use Rattle.hs_forms.specs.Reading.{RFile}
 use Rattle.hs_forms.specs.Written.{written}
 use Rattle.hs_parser.specs.declared.stop.ParseStop.{ParseStop}
 use Rattle.hs_parser.specs.declared.stop.ParseStop.TheVariants as stop
@@ -87,13 +87,13 @@ abbrev pub LimitBreaks : List ℕ → List Spelled → Broken → Type 0
 LimitBreaks text tokens b = LimitsOf text (tokens_of text tokens) b
 
 -- this is told of the tokens
-abbrev pub Tells : List ℕ → List Spelled → Broken → Type 0
-Tells text tokens b = ParseBreaks text tokens b ⊎ LimitBreaks text tokens b
+abbrev pub Diagnosis : List ℕ → List Spelled → Broken → Type 0
+Diagnosis text tokens b = ParseBreaks text tokens b ⊎ LimitBreaks text tokens b
 
 -- the answer is a file that passes no limit, or what is told, or more nests than is always read, or there was no memory
 abbrev pub Answers : List ℕ → List Spelled → Result File ParseStop → Type 0
 Answers text tokens (Ok x) = IsRead text tokens x
-Answers text tokens (Err (stop.Broken b)) = Tells text tokens b
+Answers text tokens (Err (stop.Broken b)) = Diagnosis text tokens b
 Answers text tokens (Err stop.TooDeep) = NestsTooDeep (tokens_of text tokens)
 Answers text tokens (Err stop.NoMemory) = Unit {0}
 

@@ -3,7 +3,7 @@
 ghost use Rattle.std.specs.Prelude.{◌≡◌, ◌<◌, IfOk, IfSome, length, reverse};
 ghost use Rattle.hs_grammar.specs.Kinds.{has};
 ghost use Rattle.hs_forms.specs.Lexis.{lexis};
-ghost use Rattle.hs_forms.specs.Grammar.{assign_kinds};
+ghost use Rattle.hs_forms.specs.Reading.{assign_kinds};
 ghost use Rattle.hs_parser.specs.Nesting as n;
 
 use crate::break_rule::{closes, opens};

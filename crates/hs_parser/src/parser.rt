@@ -12,7 +12,7 @@ ghost use Rattle.hs_places.specs.Spaced.{Spaced};
 ghost use Rattle.hs_forms.specs.Tokens.{tokens_of};
 ghost use Rattle.hs_grammar.specs.Derives.{DerivesAs};
 ghost use Rattle.hs_grammar.specs.Whole.{ParseBreak};
-ghost use Rattle.hs_forms.specs.Grammar.{RFile};
+ghost use Rattle.hs_forms.specs.Reading.{RFile};
 ghost use Rattle.hs_forms.specs.Written.{written};
 ghost use Rattle.hs_parser.specs.Nesting as n;
 ghost use Rattle.hs_parser.specs.Told as t;
@@ -161,7 +161,7 @@ pub fn parse(alloc: Global, tokens: &Tokens, bytes: &[u8]) -> Result<File, Parse
     requires { Placed 0 (length bytes.now) tokens.now }
     ensures answers { t.Answers bytes.now tokens.now result }
     ensures only_file { (x : File) → t.IsRead bytes.now tokens.now x → (result ≡ Ok x) ⊎ t.Unanswered result }
-    ensures only_told { (b : Broken) → t.Tells bytes.now tokens.now b → (result ≡ Err (ParseStop.Broken b)) ⊎ t.Unanswered result }
+    ensures only_told { (b : Broken) → t.Diagnosis bytes.now tokens.now b → (result ≡ Err (ParseStop.Broken b)) ⊎ t.Unanswered result }
     ensures shallow { ((place : ℕ) → n.nesting (take place (tokens_of bytes.now tokens.now)) ≤ n.least_depth) → result ≢ Err ParseStop.TooDeep }
     ensures nested { (x : File) → t.IsFile bytes.now tokens.now x → Nested (outline_of x) 0 (length bytes.now) }
     ensures well_formed { (x : File) → All (IsName bytes.now) tokens.now → t.IsFile bytes.now tokens.now x → WellFormed bytes.now x.items }
@@ -183,7 +183,7 @@ pub fn unambiguous()
     ensures one { (text : List ℕ) (tokens : List Spelled) (x y : File) → t.IsFile text tokens x → t.IsFile text tokens y → x ≡ y }
     ensures once { (text : List ℕ) (tokens : List Spelled) (b c : Broken) → t.ParseBreaks text tokens b → t.ParseBreaks text tokens c → b ≡ c }
     ensures apart { (text : List ℕ) (tokens : List Spelled) (x : File) (b : Broken) → t.IsFile text tokens x → t.ParseBreaks text tokens b → ⊥ }
-    ensures read { (text : List ℕ) (tokens : List Spelled) (x : File) (b : Broken) → t.IsRead text tokens x → t.Tells text tokens b → ⊥ }
+    ensures read { (text : List ℕ) (tokens : List Spelled) (x : File) (b : Broken) → t.IsRead text tokens x → t.Diagnosis text tokens b → ⊥ }
 {
     exact::<Source>();
 }

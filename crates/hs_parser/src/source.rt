@@ -1,7 +1,7 @@
 //! The grammar, and the parser of it.
 
 ghost use Rattle.hs_grammar.specs.Whole.{ParsesAll};
-ghost use Rattle.hs_forms.specs.Grammar.{RFile};
+ghost use Rattle.hs_forms.specs.Reading.{RFile};
 ghost use Rattle.hs_forms.specs.Written.{written};
 
 use hs_forms::Token;
@@ -20,13 +20,13 @@ pub struct Source;
 impl Grammar for Source {
     ghost use Rattle.hs_forms.specs.Lexis as l;
     ghost use Rattle.hs_forms.specs.Written as w;
-    ghost use Rattle.hs_forms.specs.Grammar as r;
-    ghost use Rattle.hs_forms.specs.Fits as f;
+    ghost use Rattle.hs_forms.specs.Reading as r;
+    ghost use Rattle.hs_forms.specs.Lookahead as f;
     ghost use Rattle.hs_forms.proofs.Agree as a;
 
     ghost lexis = { l.lexis };
 
-    ghost tells = { l.tells };
+    ghost decides = { l.decides };
 
     ghost rules = { r.rules };
 

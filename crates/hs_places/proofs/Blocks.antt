@@ -18,7 +18,7 @@ use Rattle.hs_forms.specs.declared.piece.Piece.TheVariants as piece
 use Rattle.hs_forms.specs.Lexis.{lexis}
 use Rattle.hs_forms.specs.Nodes.{across}
 use Rattle.hs_forms.specs.Blocks.{place_in, let_of, for_of, return_of, alone_of, exp_stmt_of, assign_to, step_of_piece, bare_in, ending, split_tail, with_tail, block_of}
-use Rattle.hs_forms.specs.Grammar.{rules, let_form, loop_variable, for_form, returned, return_form, alone_form, assigned, finished, behind_place, exp_form, piece_form, pieces, block_form}
+use Rattle.hs_forms.specs.Reading.{rules, let_form, loop_variable, for_form, returned, return_form, alone_form, assigned, finished, behind_place, exp_form, piece_form, pieces, block_form}
 use Rattle.hs_limits.specs.Outline.{join, one, maybe, all, upto, counted, statement}
 use Rattle.hs_limits.specs.Nodes.{word, name, wrap, optional_ty, node_of_ty, node_of_pat, node_of_exp, node_of_step, node_of_stmt, node_of_block}
 use Rattle.hs_limits.specs.Nested.{Nested}

@@ -28,7 +28,7 @@ use Rattle.hs_forms.specs.declared.token.Token.{Token}
 use Rattle.hs_forms.specs.Lexis.{lexis}
 use Rattle.hs_forms.specs.Nodes.{span_of, across, last_of, operand_of, right_of, binary_of, cast_of, post_of, prefix_of, prefix_named, group_of, tuple_of, call_of, if_of, match_of, arm_of}
 use Rattle.hs_forms.specs.Blocks.{step_of}
-use Rattle.hs_forms.specs.Grammar.{rules, F, RExp, RUnary, RBlock, RIf, RMaybe, int, path_type, path_of_type, behind_separator, named_path, path_form, expression, block, lent, lent_arg, list_arg, arg_form, args_rest, args, call_form, behind_first, grouped_rest, grouped, else_branch, else_form, if_form, block_value, closed_value, exp_value, arm_form, next_arms, arms_of, arms, match_form, literal, alone, prim, method, behind_dot, index, postfix_form, post, unary, cast, operand, operands, one_or_none, binary}
+use Rattle.hs_forms.specs.Reading.{rules, F, RExp, RUnary, RBlock, RIf, RMaybe, int, path_type, path_of_type, behind_separator, named_path, path_form, expression, block, lent, lent_arg, list_arg, arg_form, args_rest, args, call_form, behind_first, grouped_rest, grouped, else_branch, else_form, if_form, block_value, closed_value, exp_value, arm_form, next_arms, arms_of, arms, match_form, literal, alone, prim, method, behind_dot, index, postfix_form, post, unary, cast, operand, operands, one_or_none, binary}
 use Rattle.hs_limits.specs.Outline.{none, join, one, all, counted, through, apart, part}
 use Rattle.hs_limits.specs.Nodes.{word, name, tall, ty_outline, node_of_ty, node_of_arm_pat, node_of_path, node_of_exp, node_of_if, node_of_else, node_of_arg, node_of_step, node_of_postfix, node_of_arm, node_of_block, node_of_operand}
 use Rattle.hs_limits.specs.Nested.{Nested}

@@ -3,14 +3,14 @@ use Rattle.std.proofs.Common.{◌≡◌, ℕ, ◌≤◌, ◌<◌, arith, Bool, t
 use Rattle.hs_grammar.specs.Form.{Step, More, Last, Pure, Tok, Map, Seq, Split, Alt, Loop, Unless}
 use Rattle.hs_grammar.specs.Kinds.{has, starts}
 use Rattle.hs_grammar.specs.Derives.{Derivings, Derives, Turns, Where}
-use Rattle.hs_grammar.specs.Words.{rule, ◌>>◌, ◌<<◌, ◌&◌, optional, star, list_read}
+use Rattle.hs_grammar.specs.Combinators.{rule, ◌>>◌, ◌<<◌, ◌&◌, optional, star, list_read}
 use Rattle.hs_forms.specs.declared.token.Kind.{Kind}
 use Rattle.hs_forms.specs.declared.token.Kind.TheVariants as k
 use Rattle.hs_forms.specs.declared.token.Token.{Token}
 use Rattle.hs_forms.specs.Lexis.{lexis}
 use Rattle.hs_forms.specs.Nodes.{span_of}
 use Rattle.hs_syntax.specs.declared.ty.Ty.{Ty}
-use Rattle.hs_forms.specs.Grammar.{Rule, RFile, RType, RMaybe, RPat, RExp, RUnary, RBlock, RIf, ROpen, RPlace, RPlaced, rules, value, F}
+use Rattle.hs_forms.specs.Reading.{Rule, RFile, RType, RMaybe, RPat, RExp, RUnary, RBlock, RIf, ROpen, RPlace, RPlaced, rules, value, F}
 use Rattle.hs_limits.specs.Nested.{Nested}
 use Rattle.hs_limits.specs.Spans.{SpansAgree}
 use Rattle.hs_limits.specs.Nodes.{name, node_of_item, node_of_ty, node_of_pat, node_of_exp, node_of_if, node_of_block}

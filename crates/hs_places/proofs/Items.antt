@@ -14,7 +14,7 @@ use Rattle.hs_syntax.specs.declared.item.ItemKind.TheVariants as item
 use Rattle.hs_syntax.specs.Spans.{span_of_ty, span_of_block}
 use Rattle.hs_forms.specs.Lexis.{lexis}
 use Rattle.hs_forms.specs.Nodes.{across}
-use Rattle.hs_forms.specs.Grammar.{rules, mutable_param, lent_type, mode_type, named_param, param, parts, ctor_of, ctor, Declared, const_form, alias_form, struct_form, enum_form, params_rest, params, result_type, fn_form, data_form, declaration, derive_names, item_of, derived_item, public_item, plain_item, use_form, array_form, bytes_form, nat_mod_names, nat_mod_values, nat_mod_form, other_item, item_form, file_form}
+use Rattle.hs_forms.specs.Reading.{rules, mutable_param, lent_type, mode_type, named_param, param, parts, ctor_of, ctor, Declared, const_form, alias_form, struct_form, enum_form, params_rest, params, result_type, fn_form, data_form, declaration, derive_names, item_of, derived_item, public_item, plain_item, use_form, array_form, bytes_form, nat_mod_names, nat_mod_values, nat_mod_form, other_item, item_form, file_form}
 use Rattle.hs_limits.specs.Outline.{none, join, one, all, upto, through, apart, part, parameter}
 use Rattle.hs_limits.specs.Nodes.{word, name, names, wrap, ty_outline, node_of_ty, node_of_exp, node_of_block, node_of_ctor, node_of_param, kind_outline, node_of_item}
 use Rattle.hs_limits.specs.Nested.{Nested}

@@ -6,7 +6,7 @@ use Rattle.hs_syntax.specs.declared.pat.Pat.{Pat}
 use Rattle.hs_forms.specs.declared.token.Kind.TheVariants as k
 use Rattle.hs_forms.specs.Lexis.{lexis}
 use Rattle.hs_forms.specs.Nodes.{across, mutable_pat, name_pat, tuple_pat, ctor_pat, member_pat}
-use Rattle.hs_forms.specs.Grammar.{rules, RPat, pattern, patterns, named_pattern, mutable_pattern, tuple_pattern, pat_form, member_pattern, behind_ctor, arm_pattern}
+use Rattle.hs_forms.specs.Reading.{rules, RPat, pattern, patterns, named_pattern, mutable_pattern, tuple_pattern, pat_form, member_pattern, behind_ctor, arm_pattern}
 use Rattle.hs_limits.specs.Outline.{none, join, one, all, apart, part}
 use Rattle.hs_limits.specs.Nodes.{word, name, node_of_pat, node_of_arm_pat}
 use Rattle.hs_limits.specs.Nested.{Nested}

@@ -3,7 +3,7 @@ use Rattle.std.proofs.Common.{ℕ, zero, suc, List}
 use Rattle.hs_grammar.specs.Derives.{DerivesBy, DerivesAs}
 use Rattle.hs_syntax.specs.declared.item.Item.{Item}
 use Rattle.hs_forms.specs.declared.token.Token.{Token}
-use Rattle.hs_forms.specs.Grammar.{Rule, value, RFile, RType, RMaybe, RPat, RExp, RUnary, RBlock, RIf, ROpen, RPlace, RPlaced, grammar, levels}
+use Rattle.hs_forms.specs.Reading.{Rule, value, RFile, RType, RMaybe, RPat, RExp, RUnary, RBlock, RIf, ROpen, RPlace, RPlaced, grammar, levels}
 use Rattle.hs_limits.specs.Nested.{Nested}
 use Rattle.hs_limits.specs.Nodes.{outline_of_items, node_of_item}
 use Rattle.hs_limits.specs.Spans.{SpansAgree}

@@ -11,7 +11,7 @@ use Rattle.hs_grammar.specs.Derives.{Where}
 use Rattle.hs_forms.specs.declared.token.Kind.{Kind}
 use Rattle.hs_forms.specs.declared.token.Kind.TheVariants as k
 use Rattle.hs_forms.specs.declared.token.Token.{Token}
-use Rattle.hs_forms.specs.Lexis.{lexis, same, tells}
+use Rattle.hs_forms.specs.Lexis.{lexis, same, decides}
 use Rattle.hs_forms.specs.Tokens.{placed, tokens_of}
 use Rattle.hs_forms.specs.Kinds.{named, reserved, names, short_marks, long_marks, reserved_kind, name_kind, mark_kind, kind_of}
 use Rattle.hs_places.specs.Spaced.{Behind, Spaced}
@@ -44,7 +44,7 @@ not_true false h = refl
 pub no_half : (ks : List Kind) (kind : Kind) → has lexis ks k.ShiftBack ≡ false → has lexis ks kind ≡ true → same kind k.ShiftBack ≡ false
 no_half ks kind lacks found =
     not_true (same kind k.ShiftBack) (λ e.
-    let wrong : true ≡ false = sym found ∙ ap (has lexis ks) (tells.one kind k.ShiftBack e) ∙ lacks in cc)
+    let wrong : true ≡ false = sym found ∙ ap (has lexis ks) (decides.one kind k.ShiftBack e) ∙ lacks in cc)
 
 -- ---- the tokens of a text
 

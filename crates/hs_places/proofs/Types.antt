@@ -8,7 +8,7 @@ use Rattle.hs_forms.specs.declared.token.Kind.TheVariants as k
 use Rattle.hs_forms.specs.Lexis.{lexis}
 use Rattle.hs_forms.specs.Nodes.{across, tuple_ty, all_types}
 use Rattle.hs_forms.specs.Blocks.{step_of}
-use Rattle.hs_forms.specs.Grammar.{rules, RType, RMaybe, name as a_name, type_, next_type, next_types, types, angle, applied_of, closed, close_maybe, maybe_closed, named_ty, named_maybe, tuple_items, tuple_rest, bracketed, type_form, maybe_form}
+use Rattle.hs_forms.specs.Reading.{rules, RType, RMaybe, name as a_name, type_, next_type, next_types, types, angle, applied_of, closed, close_maybe, maybe_closed, named_ty, named_maybe, tuple_items, tuple_rest, bracketed, type_form, maybe_form}
 use Rattle.hs_limits.specs.Outline.{none, one, apart, part}
 use Rattle.hs_limits.specs.Nodes.{name, node_of_ty}
 use Rattle.hs_limits.specs.Nested.{Nested}

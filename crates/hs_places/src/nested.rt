@@ -6,7 +6,7 @@ ghost use Rattle.hs_lexer.specs.declared.token.Token.{Token as Spelled};
 ghost use Rattle.hs_lexer.specs.Places.{Placed};
 ghost use Rattle.hs_syntax.specs.declared.item.Item.{Item};
 ghost use Rattle.hs_forms.specs.declared.token.Token.{Token};
-ghost use Rattle.hs_forms.specs.Grammar.{grammar, RFile};
+ghost use Rattle.hs_forms.specs.Reading.{grammar, RFile};
 ghost use Rattle.hs_forms.specs.Tokens.{tokens_of};
 ghost use Rattle.hs_limits.specs.Nested.{Nested};
 ghost use Rattle.hs_limits.specs.Nodes.{outline_of_items};

@@ -15,7 +15,7 @@ use Rattle.hs_forms.specs.declared.piece.Piece.TheVariants as piece
 use Rattle.hs_forms.specs.Lexis.{lexis}
 use Rattle.hs_forms.specs.Nodes.{across, assign_named}
 use Rattle.hs_forms.specs.Blocks.{place_in, alone_of, exp_stmt_of, assign_to, step_of_piece, bare_in, ending, split_tail, with_tail}
-use Rattle.hs_forms.specs.Grammar.{rules, let_form, loop_variable, for_form, returned, return_form, alone_form, assign_kinds, assign_op, assigned, finished, behind_place, exp_form, piece_form, pieces, block_form}
+use Rattle.hs_forms.specs.Reading.{rules, let_form, loop_variable, for_form, returned, return_form, alone_form, assign_kinds, assign_op, assigned, finished, behind_place, exp_form, piece_form, pieces, block_form}
 use Rattle.hs_shapes.proofs.Sure.{among}
 use Rattle.hs_shapes.proofs.Layers.{stmt_let, stmt_assign, stmt_for, stmt_return, stmt_bare, stmt_exp, block_is}
 use Rattle.hs_shapes.proofs.Facts.{Fact, good, anything, by, pair, perhaps, perhaps_any, rows, Row, row_each, Turn, both_true}

@@ -1,7 +1,7 @@
 -- Expressions are well formed.
 use Rattle.std.proofs.Common.{◌≡◌, ℕ, Bool, true, false, not, List, [], ◌∷◌, Option, Some, None, map, refl, sym, ap, ◌∙◌}
 use Rattle.hs_grammar.specs.Form.{Tok}
-use Rattle.hs_grammar.specs.Words.{star}
+use Rattle.hs_grammar.specs.Combinators.{star}
 use Rattle.hs_grammar.specs.Derives.{Derivings}
 use Rattle.hs_syntax.specs.declared.span.Span.{Span}
 use Rattle.hs_syntax.specs.declared.span.Int.{Int}
@@ -27,7 +27,7 @@ use Rattle.hs_forms.specs.declared.token.Kind.TheVariants as k
 use Rattle.hs_forms.specs.Lexis.{lexis}
 use Rattle.hs_forms.specs.Nodes.{across, last_of, op_named, operand_of, right_of, binary_of, cast_of, post_of, prefix_named, call_of, if_end, if_of}
 use Rattle.hs_forms.specs.Blocks.{step_of}
-use Rattle.hs_forms.specs.Grammar.{rules, F, RExp, RUnary, RBlock, RIf, RMaybe, path_type, path_of_type, behind_separator, named_path, path_form, expression, block, lent, lent_arg, list_arg, arg_form, args_rest, args, call_form, behind_first, grouped_rest, grouped, else_branch, else_form, if_form, block_value, closed_value, exp_value, arm_form, next_arms, arms_of, arms, match_form, literal, alone, prim, method, behind_dot, index, postfix_form, post, unary, cast, op_of, operator, operand, operands, one_or_none, binary}
+use Rattle.hs_forms.specs.Reading.{rules, F, RExp, RUnary, RBlock, RIf, RMaybe, path_type, path_of_type, behind_separator, named_path, path_form, expression, block, lent, lent_arg, list_arg, arg_form, args_rest, args, call_form, behind_first, grouped_rest, grouped, else_branch, else_form, if_form, block_value, closed_value, exp_value, arm_form, next_arms, arms_of, arms, match_form, literal, alone, prim, method, behind_dot, index, postfix_form, post, unary, cast, op_of, operator, operand, operands, one_or_none, binary}
 use Rattle.hs_shapes.proofs.Sure.{OfEach, among}
 use Rattle.hs_shapes.proofs.Layers.{exp_int, exp_bool, exp_unit, exp_group, exp_tuple, exp_path, exp_call, exp_block, exp_if, exp_match, exp_post, exp_prefix, exp_cast, exp_binary, arg_value, arg_shared, arg_lent, arg_list, else_chain, else_last, step_index, step_part, postfix_try, postfix_method, postfix_step, arm_is, if_is, operand_is}
 use Rattle.hs_shapes.proofs.Facts.{Fact, good, anything, by, pair, perhaps, Perhaps, perhaps_any, rows, Row, row_each, each_of, some_of, some_mapped, two_mapped, each_more, Turn, behind_name, behind_mark, both_true}

@@ -3,13 +3,13 @@ use Rattle.std.proofs.Common.{◌≡◌, ℕ, Bool, true, false, List, [], ◌�
 use Rattle.hs_grammar.specs.Form.{Step, More, Last, Pure, Tok, Map, Seq, Split, Alt, Loop, Unless}
 use Rattle.hs_grammar.specs.Kinds.{has, starts}
 use Rattle.hs_grammar.specs.Derives.{Derivings, Derives, Turns, Where}
-use Rattle.hs_grammar.specs.Words.{rule, ◌>>◌, ◌<<◌, ◌&◌, optional, star, list_read}
+use Rattle.hs_grammar.specs.Combinators.{rule, ◌>>◌, ◌<<◌, ◌&◌, optional, star, list_read}
 use Rattle.hs_syntax.specs.declared.ty.Ty.{Ty}
 use Rattle.hs_syntax.specs.WellFormed.{named, well_ty, well_pat, well_exp, well_if, well_block, well_item}
 use Rattle.hs_forms.specs.declared.token.Kind.{Kind}
 use Rattle.hs_forms.specs.declared.token.Token.{Token}
 use Rattle.hs_forms.specs.Lexis.{lexis}
-use Rattle.hs_forms.specs.Grammar.{Rule, RFile, RType, RMaybe, RPat, RExp, RUnary, RBlock, RIf, ROpen, RPlace, RPlaced, rules, value, F, name}
+use Rattle.hs_forms.specs.Reading.{Rule, RFile, RType, RMaybe, RPat, RExp, RUnary, RBlock, RIf, ROpen, RPlace, RPlaced, rules, value, F, name}
 use Rattle.hs_shapes.proofs.Sure.{IsSure, AllSure, divide}
 use Rattle.hs_shapes.proofs.Facts.{Fact, good, anything, by, pair, perhaps, Perhaps, rows, Row, row_each, each_of, some_of, turns}
 

@@ -6,7 +6,7 @@ use Rattle.hs_syntax.specs.declared.ty.Ty.{Ty}
 use Rattle.hs_syntax.specs.declared.item.Mode.{Mode}
 use Rattle.hs_syntax.specs.WellFormed.{named, well_ty, well_ctor, well_param, well_kind, well_item}
 use Rattle.hs_forms.specs.Lexis.{lexis}
-use Rattle.hs_forms.specs.Grammar.{rules, mutable_param, lent_type, mode_type, named_param, param, parts, ctor_of, ctor, Declared, const_form, alias_form, struct_form, enum_form, params_rest, params, result_type, fn_form, data_form, declaration, derive_names, derived_item, public_item, plain_item, use_form, array_form, bytes_form, nat_mod_names, nat_mod_form, other_item, item_form, file_form}
+use Rattle.hs_forms.specs.Reading.{rules, mutable_param, lent_type, mode_type, named_param, param, parts, ctor_of, ctor, Declared, const_form, alias_form, struct_form, enum_form, params_rest, params, result_type, fn_form, data_form, declaration, derive_names, derived_item, public_item, plain_item, use_form, array_form, bytes_form, nat_mod_names, nat_mod_form, other_item, item_form, file_form}
 use Rattle.hs_shapes.proofs.Facts.{Fact, good, anything, by, pair, perhaps, Perhaps, perhaps_any, each_of, some_of, both_true}
 use Rattle.hs_shapes.proofs.Gives.{Gives, Knots, name_gives, none_kept, map_to, seq, alt, then_, and_then, both, both_first, may, many_good, listed}
 use Rattle.hs_shapes.proofs.Types.{type_gives}

@@ -6,7 +6,7 @@ use Rattle.hs_syntax.specs.declared.pat.Pat.{Pat}
 use Rattle.hs_syntax.specs.WellFormed.{named, well_pat, well_arm_pat}
 use Rattle.hs_forms.specs.Lexis.{lexis}
 use Rattle.hs_forms.specs.Nodes.{across, name_pat, tuple_pat, ctor_pat, member_pat}
-use Rattle.hs_forms.specs.Grammar.{rules, RPat, pattern, patterns, named_pattern, mutable_pattern, tuple_pattern, pat_form, member_pattern, behind_ctor, arm_pattern}
+use Rattle.hs_forms.specs.Reading.{rules, RPat, pattern, patterns, named_pattern, mutable_pattern, tuple_pattern, pat_form, member_pattern, behind_ctor, arm_pattern}
 use Rattle.hs_shapes.proofs.Layers.{pat_name, pat_any, pat_tuple, pat_struct}
 use Rattle.hs_shapes.proofs.Facts.{Fact, good, anything, by, Perhaps, some_of, behind_name, both_true, some_mapped, two_mapped}
 use Rattle.hs_shapes.proofs.Gives.{Gives, Knots, of_rule, name_gives, none_kept, map_to, seq, alt, then_, both, both_first, may, listed}

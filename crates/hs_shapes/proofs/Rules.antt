@@ -7,7 +7,7 @@ use Rattle.hs_syntax.specs.declared.item.Item.{Item}
 use Rattle.hs_syntax.specs.WellFormed.{WellFormed}
 use Rattle.hs_forms.specs.declared.token.Token.{Token}
 use Rattle.hs_forms.specs.Tokens.{tokens_of}
-use Rattle.hs_forms.specs.Grammar.{Rule, value, RFile, RType, RMaybe, RPat, RExp, RUnary, RBlock, RIf, ROpen, RPlace, RPlaced, grammar, levels}
+use Rattle.hs_forms.specs.Reading.{Rule, value, RFile, RType, RMaybe, RPat, RExp, RUnary, RBlock, RIf, ROpen, RPlace, RPlaced, grammar, levels}
 use Rattle.hs_shapes.proofs.Sure.{AllSure}
 use Rattle.hs_shapes.proofs.Tokens.{tokens_sure}
 use Rattle.hs_shapes.proofs.Gives.{Knots, fact}

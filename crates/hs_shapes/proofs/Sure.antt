@@ -5,8 +5,8 @@ use Rattle.hs_syntax.specs.WellFormed.{named, decimal}
 use Rattle.hs_forms.specs.declared.token.Kind.{Kind}
 use Rattle.hs_forms.specs.declared.token.Kind.TheVariants as k
 use Rattle.hs_forms.specs.declared.token.Token.{Token}
-use Rattle.hs_forms.specs.Lexis.{lexis, same, tells}
-use Rattle.hs_forms.specs.Grammar.{name_kinds}
+use Rattle.hs_forms.specs.Lexis.{lexis, same, decides}
+use Rattle.hs_forms.specs.Reading.{name_kinds}
 
 pub record IsSure (text : List ℕ) (t : Token) : Type 0 where
   pub name : has lexis name_kinds t.kind ≡ true → named text t.span ≡ true
@@ -35,5 +35,5 @@ among P [] kind h a = absurd (false_true h)
 among P (x ∷ ks) kind h (p, a) = either (same x kind) refl h (λ i. among P ks kind i a)
   where
     either : (b : Bool) → same x kind ≡ b → (b || has lexis ks kind) ≡ true → (has lexis ks kind ≡ true → P kind) → P kind
-    either true e i f = subst P (tells.one x kind e) p
+    either true e i f = subst P (decides.one x kind e) p
     either false e i f = f i

@@ -16,7 +16,7 @@ use Rattle.hs_forms.specs.declared.token.Token.{Token}
 use Rattle.hs_forms.specs.Lexis.{lexis, same}
 use Rattle.hs_forms.specs.Tokens.{placed, tokens_of}
 use Rattle.hs_forms.specs.Kinds.{named as kind_named, reserved, names, short_marks, long_marks, reserved_kind, name_kind, mark_kind, kind_of}
-use Rattle.hs_forms.specs.Grammar.{name_kinds}
+use Rattle.hs_forms.specs.Reading.{name_kinds}
 use Rattle.hs_shapes.proofs.Sure.{IsSure, AllSure}
 
 -- ---- kinds

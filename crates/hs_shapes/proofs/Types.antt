@@ -7,7 +7,7 @@ use Rattle.hs_syntax.specs.WellFormed.{named, well_ty}
 use Rattle.hs_forms.specs.Lexis.{lexis}
 use Rattle.hs_forms.specs.Nodes.{across, tuple_ty, all_types}
 use Rattle.hs_forms.specs.Blocks.{step_of}
-use Rattle.hs_forms.specs.Grammar.{rules, RType, RMaybe, type_, next_type, next_types, types, angle, applied_of, closed, maybe_closed, named_ty, named_maybe, tuple_items, tuple_rest, bracketed, type_form, maybe_form}
+use Rattle.hs_forms.specs.Reading.{rules, RType, RMaybe, type_, next_type, next_types, types, angle, applied_of, closed, maybe_closed, named_ty, named_maybe, tuple_items, tuple_rest, bracketed, type_form, maybe_form}
 use Rattle.hs_shapes.proofs.Layers.{ty_name, ty_unit, ty_tuple, ty_applied}
 use Rattle.hs_shapes.proofs.Facts.{Fact, good, anything, by, pair, perhaps, Perhaps, rows, row_each, some_of, Turn, behind_name, behind_mark, both_true, some_mapped, two_mapped, each_more}
 use Rattle.hs_shapes.proofs.Gives.{Gives, Knots, of_rule, name_gives, none_kept, empty, map_to, seq, split, alt, loop, then_, both_first, may, listed}

@@ -6,7 +6,7 @@ ghost use Rattle.hs_lexer.specs.declared.token.Token.{Token as Spelled};
 ghost use Rattle.hs_lexer.specs.Places.{IsName};
 ghost use Rattle.hs_syntax.specs.declared.item.Item.{Item};
 ghost use Rattle.hs_syntax.specs.WellFormed.{WellFormed};
-ghost use Rattle.hs_forms.specs.Grammar.{grammar, RFile};
+ghost use Rattle.hs_forms.specs.Reading.{grammar, RFile};
 ghost use Rattle.hs_forms.specs.Tokens.{tokens_of};
 
 /// The items that the grammar derives from the tokens of a text are well formed, where a token of a name has a name's bytes.

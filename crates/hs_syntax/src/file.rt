@@ -7,7 +7,7 @@ ghost use Rattle.hs_syntax.specs.Texts.{bytes_at};
 use crate::item::Item;
 use crate::span::Span;
 use hs_base::memory::NoMemory;
-use hs_base::parts::{behind, front};
+use hs_base::parts::between;
 use hs_base::place::{Broken, Pos};
 use hs_base::rule::Rule;
 use sqlite_items::Items;
@@ -50,8 +50,7 @@ impl Text {
     pub fn at(&self, span: Span) -> &[u8]
         ensures { result.now ≡ bytes_at self.now span }
     {
-        let length = span.end.saturating_sub(span.start);
-        front(behind(&self.bytes, span.start as usize), length as usize)
+        between(&self.bytes, span.start, span.end)
     }
 
     /// The place of a span's first byte. Takes no memory.

@@ -1,5 +1,5 @@
 use Rattle.std.proofs.Common.{rules, ◌≡◌, refl, ap, ◌∙◌, subst, Some, None, bytes_eq, if◌then◌else◌}
-use Rattle.hs_base.specs.Told.{StandsAt, bytes_under}
+use Rattle.hs_base.specs.Contents.{StandsAt, bytes_under}
 use Rattle.hs_base.specs.Shelves.{entries_of}
 use Rattle.hs_base.proofs.Searching.{replaced, added_last}
 use Rattle.hs_base.proofs.shelf.add_to.Goals as goal

@@ -24,7 +24,7 @@ last text all i into h e =
 
 pub loop-token-preserved : goal.loop-token-preserved
 loop-token-preserved c =
-    rw (c.in_ok-push_both.ensures, c.kind_of.ensures, c.spelling-bytes.ensures)
+    rw (c.in_ok-push_both.ensures, c.kind_of.ensures, c.between-bytes.ensures)
     (step c.args.text.now c.args.tokens.now c.loop-token.token-index _ c.loop-token.into c.loop-token-test.true c.loop-token.invariant)
 
 pub returns : goal.returns

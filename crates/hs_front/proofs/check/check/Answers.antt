@@ -2,7 +2,7 @@ use Rattle.std.proofs.Common.{All, sym, subst}
 use Rattle.hs_tree.specs.Of.{program_of}
 use Rattle.hs_lexer.specs.Lexes.{Lexes}
 use Rattle.hs_lexer.specs.Places.{IsNamed}
-use Rattle.hs_front.specs.Language.{AFile}
+use Rattle.hs_front.specs.Written.{AFile}
 use Rattle.hs_front.proofs.Whole.{accepted_once, accepted_apart, behind_accepted, behind_told, behind_only, behind_only_break, stop_only, stop_only_break}
 use Rattle.hs_front.proofs.check.check.Goals as goal
 

@@ -3,7 +3,7 @@ use Rattle.hs_tree.specs.Of.{program_of}
 use Rattle.hs_grammar.specs.Derives.{DerivesAs}
 use Rattle.hs_grammar.specs.Whole.{ParseBreak, Parses}
 use Rattle.hs_front.specs.Symbols.{symbols_of}
-use Rattle.hs_front.specs.Language.{AFile, written}
+use Rattle.hs_front.specs.Written.{AFile, written}
 use Rattle.hs_front.specs.Told.{break_at, ToldBehind}
 use Rattle.hs_front.specs.Walk.{Gives, file_walk}
 use Rattle.hs_front.proofs.Whole.{file_accepted, file_told, file_only, file_only_break, break_told, break_accepts_none, break_only}

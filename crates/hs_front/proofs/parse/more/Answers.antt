@@ -1,7 +1,7 @@
 use Rattle.std.proofs.Common.{refl, arith, sym, ◌∙◌, subst}
 use Rattle.std.proofs.lemmas.Result.{err_from_is_err_and}
 use Rattle.hs_grammar.proofs.Reading.{giving-self}
-use Rattle.hs_front.specs.Language.{addend, up_to}
+use Rattle.hs_front.specs.Written.{addend, up_to}
 use Rattle.hs_front.specs.Reading.{more, reads}
 use Rattle.hs_front.specs.Lookahead.{addend_full}
 use Rattle.hs_front.proofs.Repeats.{Going, going_start, going_on, going_wrong, going_ended, going_full}

@@ -1,5 +1,5 @@
 use Rattle.std.proofs.Common.{◌-◌, length}
-use Rattle.hs_front.specs.Language.{addend}
+use Rattle.hs_front.specs.Written.{addend}
 use Rattle.hs_front.specs.Reading.{more, reads}
 use Rattle.hs_front.specs.Lookahead.{addend_full}
 use Rattle.hs_front.proofs.Repeats.{Going}

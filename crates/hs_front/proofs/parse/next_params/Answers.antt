@@ -1,6 +1,6 @@
 use Rattle.std.proofs.Common.{arith, ap, sym, ◌∙◌, ◌++◌, ◌∷◌, []}
 use Rattle.std.proofs.lemmas.Result.{err_from_is_err_and}
-use Rattle.hs_front.specs.Language.{next_param}
+use Rattle.hs_front.specs.Written.{next_param}
 use Rattle.hs_front.specs.Lookahead.{next_param_full}
 use Rattle.hs_front.proofs.Repeats.{from_start, from_on, from_wrong, from_ended, from_full}
 use Rattle.hs_front.proofs.parse.next_params.Goals.{then-loop-tokens-test+else-is_at, else-loop-tokens-test}

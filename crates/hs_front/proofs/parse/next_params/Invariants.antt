@@ -1,6 +1,6 @@
 use Rattle.std.proofs.Common.{◌-◌, ◌∷◌, length}
 use Rattle.hs_grammar.specs.Parser.{giving}
-use Rattle.hs_front.specs.Language.{next_param, up_to}
+use Rattle.hs_front.specs.Written.{next_param, up_to}
 use Rattle.hs_front.specs.Reading.{reads}
 use Rattle.hs_front.specs.Lookahead.{next_param_full}
 use Rattle.hs_front.proofs.Repeats.{GoingFrom}

@@ -1,7 +1,7 @@
 use Rattle.std.proofs.Common.{subst}
 use Rattle.hs_grammar.specs.Reads.{Reads}
 use Rattle.hs_grammar.specs.Whole.{Finishes}
-use Rattle.hs_front.specs.Language.{AFile}
+use Rattle.hs_front.specs.Written.{AFile}
 use Rattle.hs_front.specs.Reading.{file_read, reads}
 use Rattle.hs_front.proofs.Flat.{finish_not_deep}
 use Rattle.hs_front.proofs.parse.read.Goals as goal

@@ -3,7 +3,7 @@ use Rattle.hs_marks.specs.declared.breach.Breach.{Breach}
 use Rattle.hs_marks.specs.First.{first}
 use Rattle.hs_marks.specs.Told.{Answers}
 use Rattle.hs_limits.specs.Nodes.{outline_of}
-use Rattle.hs_limits.specs.Told.{marked, marks_of}
+use Rattle.hs_limits.specs.Breaks.{marked, marks_of}
 use Rattle.hs_limits.specs.Walk.{first_in}
 use Rattle.hs_limits.proofs.First.{walked_is}
 use Rattle.hs_limits.proofs.Heights.{exp_agrees, stmt_agrees, block_agrees}

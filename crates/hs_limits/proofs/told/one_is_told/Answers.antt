@@ -1,5 +1,5 @@
 use Rattle.hs_limits.specs.Nodes.{outline_of}
-use Rattle.hs_limits.specs.Told.{marked}
+use Rattle.hs_limits.specs.Breaks.{marked}
 use Rattle.hs_limits.proofs.Order.{lies, rising}
 use Rattle.hs_limits.proofs.told.one_is_told.Goals as goal
 

@@ -6,10 +6,10 @@ use Rattle.hs_grammar.specs.Until.{pushed}
 use Rattle.hs_grammar.proofs.Reading.{reads_shorter, advances}
 use Rattle.hs_syntax.specs.declared.exp.Exp.{Exp}
 use Rattle.hs_syntax.specs.declared.exp.Level.TheVariants as level
-use Rattle.hs_forms.specs.Lexis.{tells}
-use Rattle.hs_forms.specs.Grammar.{grammar, tables, operand, binary}
-use Rattle.hs_forms.specs.Fits.{fits}
-use Rattle.hs_forms.specs.Reading.{reads}
+use Rattle.hs_forms.specs.Lexis.{decides}
+use Rattle.hs_forms.specs.Reading.{grammar, tables, operand, binary}
+use Rattle.hs_forms.specs.Lookahead.{fits}
+use Rattle.hs_forms.specs.Parsers.{reads}
 use Rattle.hs_parse_blocks.proofs.Operators.{operand_full, operands_read, pushed_alone, compared_one, compared_err, compared_none, binary_start, binary_on, binary_stops, binary_fails}
 use Rattle.hs_parse_blocks.proofs.forms.+levels.Goals.{Forms::comparison-then-is_at_any+in_ok-operand+in_ok-push, Forms::comparison-else-is_at_any}
 use Rattle.hs_parse_blocks.proofs.forms.+levels.Goals as goal
@@ -37,13 +37,13 @@ Forms::comparison-returns g t c = elim c.if-is_at_any.branch [
 
 pub Forms::operands-repeat-requires-clause-consumes : goal.Forms::operands-repeat-requires-clause-consumes
 Forms::operands-repeat-requires-clause-consumes g t c = λ a b old new h.
-    reads_shorter tells tables grammar fits c.args.self.now.rules.depth (pushed a) (operand c.args.level (binary c.args.stronger.now)) (operand_full c.args.level (binary c.args.stronger.now)) old.now new.now b h
+    reads_shorter decides tables grammar fits c.args.self.now.rules.depth (pushed a) (operand c.args.level (binary c.args.stronger.now)) (operand_full c.args.level (binary c.args.stronger.now)) old.now new.now b h
 
 pub Forms::operands-returns : goal.Forms::operands-returns
 Forms::operands-returns g t c =
     let other : c.args.level ≢ level.Compare = search rules in
     operands_read c.args.self.now.rules.depth c.args.level (binary c.args.stronger.now) c.operators.result.now c.new-start.result c.args.tokens.now c.repeat.new.tokens c.repeat.result other c.operators.ensures c.new-start.ensures
-    (c.repeat.ensures.reads _ (advances tells tables grammar fits c.args.self.now.rules.depth pushed (operand c.args.level (binary c.args.stronger.now)) (operand_full c.args.level (binary c.args.stronger.now)))
+    (c.repeat.ensures.reads _ (advances decides tables grammar fits c.args.self.now.rules.depth pushed (operand c.args.level (binary c.args.stronger.now)) (operand_full c.args.level (binary c.args.stronger.now)))
     (λ a old new r h. h))
 
 pub Forms::binary-loop-at-init : goal.Forms::binary-loop-at-init

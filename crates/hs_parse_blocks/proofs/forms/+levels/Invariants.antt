@@ -1,7 +1,7 @@
 use Rattle.std.proofs.Common.{◌≡◌, ◌+◌, ◌*◌, length, drop}
 use Rattle.hs_grammar.specs.Parser.{Done}
-use Rattle.hs_forms.specs.Grammar.{binary}
-use Rattle.hs_forms.specs.Reading.{reads}
+use Rattle.hs_forms.specs.Reading.{binary}
+use Rattle.hs_forms.specs.Parsers.{reads}
 use Rattle.hs_parse_blocks.proofs.forms.+levels.Given as goal
 
 abbrev pub decreases-Forms::comparison : goal.decreases-Forms::comparison

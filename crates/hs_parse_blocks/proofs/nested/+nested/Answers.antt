@@ -1,7 +1,7 @@
 use Rattle.std.proofs.Common.{◌≡◌, suc, ◌-◌, arith, subst}
 use Rattle.hs_grammar.specs.Parser.{parse_by}
 use Rattle.hs_grammar.specs.Reads.{Reads}
-use Rattle.hs_forms.specs.Grammar.{RExp, RUnary, RBlock, RIf, grammar, tables}
+use Rattle.hs_forms.specs.Reading.{RExp, RUnary, RBlock, RIf, grammar, tables}
 use Rattle.hs_parse_blocks.proofs.nested.+nested.Goals as goal
 
 pub block_rule-returns : goal.block_rule-returns

@@ -1,17 +1,17 @@
 use Rattle.std.proofs.Common.{[], ◌∷◌, ◌++◌, refl, ap, ◌∙◌}
 use Rattle.hs_grammar.specs.Until.{turn_of, pushed, kept}
-use Rattle.hs_grammar.specs.Words.{list_turn}
+use Rattle.hs_grammar.specs.Combinators.{list_turn}
 use Rattle.hs_grammar.proofs.Reading.{reads_shorter, reads_list, turns_advance}
-use Rattle.hs_forms.specs.Lexis.{tells}
-use Rattle.hs_forms.specs.Grammar.{tables, grammar, comma, param}
-use Rattle.hs_forms.specs.Fits.{fits}
+use Rattle.hs_forms.specs.Lexis.{decides}
+use Rattle.hs_forms.specs.Reading.{tables, grammar, comma, param}
+use Rattle.hs_forms.specs.Lookahead.{fits}
 use Rattle.hs_parse_items.proofs.parameter_forms.param_list.Goals as goal
 
 pub repeat_until-requires-clause-consumes : goal.repeat_until-requires-clause-consumes
-repeat_until-requires-clause-consumes c = λ a t old new h. reads_shorter tells tables grammar fits c.args.depth (turn_of pushed kept a) (list_turn comma param) refl old.now new.now t h
+repeat_until-requires-clause-consumes c = λ a t old new h. reads_shorter decides tables grammar fits c.args.depth (turn_of pushed kept a) (list_turn comma param) refl old.now new.now t h
 
 pub returns : goal.returns
 returns c =
     reads_list tables grammar c.args.depth comma param c.in_ok-param.field-0 c.push.new.self c.args.tokens.now c.param.new.tokens c.repeat_until.new.tokens c.repeat_until.result
     (c.in_ok-push.ensures.ok ∙ ap (λ l. l ++ c.in_ok-param.field-0 ∷ []) c.new-first.ensures) c.in_ok-param.ensures
-    (c.repeat_until.ensures.reads _ (turns_advance tells tables grammar fits c.args.depth pushed kept (list_turn comma param) refl) (λ a old new r h. h))
+    (c.repeat_until.ensures.reads _ (turns_advance decides tables grammar fits c.args.depth pushed kept (list_turn comma param) refl) (λ a old new r h. h))

@@ -1,5 +1,5 @@
 use Rattle.std.proofs.Common.{◌-◌, arith}
-use Rattle.hs_forms.specs.Grammar.{RPat}
+use Rattle.hs_forms.specs.Reading.{RPat}
 use Rattle.hs_parse_types.proofs.Nesting.{reads_rule}
 use Rattle.hs_parse_types.proofs.pattern_forms.+pattern.Goals as goal
 

@@ -1,5 +1,5 @@
 use Rattle.std.proofs.Common.{◌-◌, arith}
-use Rattle.hs_forms.specs.Grammar.{RType, RMaybe}
+use Rattle.hs_forms.specs.Reading.{RType, RMaybe}
 use Rattle.hs_parse_types.proofs.Nesting.{reads_rule}
 use Rattle.hs_parse_types.proofs.type_forms.+nested.Goals as goal
 

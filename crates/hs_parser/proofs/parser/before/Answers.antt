@@ -1,7 +1,7 @@
 use Rattle.std.proofs.Common.{Err, subst}
 use Rattle.hs_grammar.specs.Derives.{IsBegun}
 use Rattle.hs_grammar.specs.Whole.{ParseBreak, ParsesAll}
-use Rattle.hs_forms.specs.Grammar.{RFile}
+use Rattle.hs_forms.specs.Reading.{RFile}
 use Rattle.hs_forms.specs.Written.{written}
 use Rattle.hs_parser.proofs.Answered.{front_breaks, begun_before}
 use Rattle.hs_parser.proofs.parser.before.Goals as goal

@@ -1,4 +1,4 @@
-use Rattle.hs_forms.specs.Grammar.{RFile}
+use Rattle.hs_forms.specs.Reading.{RFile}
 use Rattle.hs_parser.proofs.Answered.{break_gives}
 use Rattle.hs_parser.proofs.parser.broken.Goals as goal
 

@@ -1,5 +1,5 @@
 use Rattle.std.proofs.Common.{length}
-use Rattle.hs_forms.specs.Grammar.{RFile}
+use Rattle.hs_forms.specs.Reading.{RFile}
 use Rattle.hs_parser.proofs.Answered.{file_gives}
 use Rattle.hs_parser.proofs.parser.derived.Goals as goal
 

@@ -1,6 +1,6 @@
 use Rattle.std.proofs.Common.{length, ap, ◌∙◌, subst}
 use Rattle.hs_forms.specs.Tokens.{tokens_of}
-use Rattle.hs_forms.specs.Grammar.{RFile}
+use Rattle.hs_forms.specs.Reading.{RFile}
 use Rattle.hs_parser.specs.Told.{Gives}
 use Rattle.hs_parser.proofs.Answered.{gives_only_file, gives_only_told}
 use Rattle.hs_parser.proofs.parser.parse.Goals as goal

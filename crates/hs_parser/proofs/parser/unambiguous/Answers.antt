@@ -1,4 +1,4 @@
-use Rattle.hs_forms.specs.Grammar.{RFile}
+use Rattle.hs_forms.specs.Reading.{RFile}
 use Rattle.hs_forms.specs.Tokens.{tokens_of}
 use Rattle.hs_parser.proofs.Answered.{one_file, one_break, file_breaks_not, read_tells_not}
 use Rattle.hs_parser.proofs.parser.unambiguous.Goals as goal

@@ -1,7 +1,7 @@
 use Rattle.std.proofs.Common.{suc, ◌*◌, length, subst, arith}
 use Rattle.hs_grammar.specs.Parser.{parse_by}
 use Rattle.hs_grammar.specs.Reads.{Reads}
-use Rattle.hs_forms.specs.Grammar.{RFile, grammar, tables}
+use Rattle.hs_forms.specs.Reading.{RFile, grammar, tables}
 use Rattle.hs_parser.proofs.Ranks.{rank, ranked}
 use Rattle.hs_parser.proofs.source.read.Goals as goal
 

@@ -1,4 +1,4 @@
--- The words of the language: what the grammar tells tokens apart by.
+-- The kinds of words, numbers and marks, by which the first grammar tells tokens apart.
 use Rattle.std.specs.Prelude.{ℕ, ◌^◌, List, [], ◌∷◌, Bool, true, false, ◌&&◌, ltb, bytes_eq, codes, Option, Some, None, if◌then◌else◌}
 use Rattle.std.specs.List.{list_any}
 use Rattle.std.specs.Str.{all_ascii_digits}

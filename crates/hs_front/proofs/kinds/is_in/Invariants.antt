@@ -1,6 +1,6 @@
 use Rattle.std.proofs.Common.{◌≡◌, drop, bytes_eq}
 use Rattle.std.specs.List.{list_any}
-use Rattle.hs_front.proofs.words.is_in.Given as goal
+use Rattle.hs_front.proofs.kinds.is_in.Given as goal
 
 abbrev pub invariant-loop-text : goal.invariant-loop-text
 invariant-loop-text l =

@@ -3,7 +3,7 @@ use Rattle.std.proofs.Common.{arith, ◌≡◌, inl, inr, ℕ, ◌+◌, ◌≤�
 use Rattle.hs_tree.specs.Plain as tree
 use Rattle.hs_front.specs.Told.{Accepted, Told}
 use Rattle.hs_base.specs.Heaps.{SureHeapState}
-use Rattle.hs_base.specs.Told.{Entry, bytes_under}
+use Rattle.hs_base.specs.Contents.{Entry, bytes_under}
 use Rattle.hs_base.specs.declared.place.Broken.{Broken}
 use Rattle.hs_cli.specs.Command.{Print, AsksPrint, command_of}
 use Rattle.hs_cli.specs.Lines.{not_there_line, too_large_line, read_failed_line, refused_line}

@@ -6,8 +6,8 @@ use Rattle.hs_front.specs.Answers.{OnBreak, IsBreak}
 use Rattle.hs_cli.specs.declared.command.Dialect.TheVariants.{FStar}
 use Rattle.hs_cli.specs.Command.{Print, AsksPrint, command_of}
 use Rattle.hs_cli.specs.Lines.{refused_line}
-use Rattle.hs_rows.proofs.Room.{refusal_fits, into_empty}
-use Rattle.hs_rows.proofs.sure.call_on_minus.Goals as goal
+use Rattle.hs_end_to_end.proofs.Room.{refusal_fits, into_empty}
+use Rattle.hs_end_to_end.proofs.sure.call_on_minus.Goals as goal
 
 abbrev asked : Print
 asked = record { dialect = FStar; module_name = codes "Add"; file = codes "add.rs" }

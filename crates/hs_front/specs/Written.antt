@@ -1,7 +1,7 @@
 -- The language: one function over `u32`, with bindings and assignments, whose value is a sum. Its grammar, one form for each rule.
 use Rattle.std.specs.Prelude.{ℕ, zero, suc, Bool, true, false, List, [], ◌∷◌}
 use Rattle.hs_grammar.specs.Form.{Rules, rules_of, Form, Pure, Tok, Map, Seq, Alt, Grammar}
-use Rattle.hs_grammar.specs.Words.{word, ◌>>◌, ◌<<◌, ◌&◌}
+use Rattle.hs_grammar.specs.Combinators.{word, ◌>>◌, ◌<<◌, ◌&◌}
 use Rattle.hs_front.specs.declared.symbol.Kind.TheVariants.{Pub, Fn, Let, Mut, U32, BuiltIn, Name, Number, LeftParenthesis, RightParenthesis, LeftBrace, RightBrace, Comma, Colon, Semicolon, Arrow, Equals, Plus}
 use Rattle.hs_front.specs.declared.symbol.Symbol.{Symbol}
 use Rattle.hs_front.specs.declared.syntax.Span.{Span}

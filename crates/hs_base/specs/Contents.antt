@@ -1,4 +1,4 @@
--- What files tell: names and contents, found by the first match.
+-- The contents of files, found under their names by the first match.
 use Rattle.std.specs.Prelude.{◌≡◌, ℕ, ◌<◌, List, [], ◌∷◌, length, ⊤, None, Some, bytes_eq, true, false, zero, suc, if◌then◌else◌}
 use Rattle.std.specs.declared.option.Option.{Option}
 

@@ -1,10 +1,10 @@
 use Rattle.std.proofs.Common.{arith, ◌≡◌, List, map, string_bytes, codes, ℕ, ◌≤◌, length, Some, None, ap}
 use Rattle.hs_base.specs.Names.{is_upper, is_letter, is_digit, begins_name, is_word_byte}
-use Rattle.hs_base.specs.Told.{bytes_under}
+use Rattle.hs_base.specs.Contents.{bytes_under}
 use Rattle.hs_cli.specs.declared.command.Dialect.TheVariants.{FStar}
 use Rattle.hs_cli.specs.Command.{Print, AsksPrint, command_of}
-use Rattle.hs_rows.proofs.Room.{absence_fits, into_empty}
-use Rattle.hs_rows.proofs.sure.call_without_files.Goals as goal
+use Rattle.hs_end_to_end.proofs.Room.{absence_fits, into_empty}
+use Rattle.hs_end_to_end.proofs.sure.call_without_files.Goals as goal
 
 abbrev asked : Print
 asked = record { dialect = FStar; module_name = codes "Add"; file = codes "none.rs" }

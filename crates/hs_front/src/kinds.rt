@@ -1,25 +1,14 @@
-//! The words of the language.
+//! The kinds of words, by which the grammar tells tokens apart.
 
-ghost use Rattle.std.specs.Prelude.{◌≡◌, ◌-◌, List, bytes_eq, take, drop};
+ghost use Rattle.std.specs.Prelude.{◌≡◌, List, bytes_eq};
 ghost use Rattle.std.specs.List.{list_any};
 ghost use Rattle.std.specs.Str.{all_ascii_digits};
 ghost use Rattle.hs_words.specs.declared.kinds.IntTy as int_ty;
-ghost use Rattle.hs_front.specs.Words.{built_in, is_built_in, name_kind, reserved_kind, number_kind, mark_kind, kind_of};
+ghost use Rattle.hs_front.specs.Kinds.{built_in, is_built_in, name_kind, reserved_kind, number_kind, mark_kind, kind_of};
 
 use crate::symbol::Kind;
-use hs_base::parts::{behind, front};
 use hs_lexer::TokenKind;
 use hs_words::IntTy;
-
-/// The bytes of the text from one place up to another, as far as there are any.
-pub fn spelling(text: &[u8], start: u32, end: u32) -> &[u8]
-    ensures { result.now ≡ take (end - start) (drop start text.now) }
-{
-    front(
-        behind(text, start as usize),
-        end.saturating_sub(start) as usize,
-    )
-}
 
 /// The names that no item may take.
 const BUILT_IN: [&str; 44] = [
@@ -82,7 +71,7 @@ fn is_in(list: &[&str], word: &[u8]) -> bool
 }
 
 /// Whether the word is a built-in name.
-#[tactic(auto, unfolding(crate::specs::Words::is_built_in))]
+#[tactic(auto, unfolding(crate::specs::Kinds::is_built_in))]
 fn is_built_in(word: &[u8]) -> bool
     ensures { result ≡ is_built_in word.now }
 {
@@ -104,7 +93,7 @@ fn name_kind(word: &[u8]) -> Kind
 }
 
 /// The kind of a reserved word.
-#[tactic(auto, unfolding(crate::specs::Words::reserved_kind))]
+#[tactic(auto, unfolding(crate::specs::Kinds::reserved_kind))]
 fn reserved_kind(word: &[u8]) -> Kind
     ensures { result ≡ reserved_kind word.now }
 {
@@ -141,7 +130,7 @@ fn number_kind(value: u128, suffix: Option<IntTy>, word: &[u8]) -> Kind
 }
 
 /// The kind of a mark.
-#[tactic(auto, unfolding(crate::specs::Words::mark_kind))]
+#[tactic(auto, unfolding(crate::specs::Kinds::mark_kind))]
 fn mark_kind(word: &[u8]) -> Kind
     ensures { result ≡ mark_kind word.now }
 {

@@ -1,4 +1,4 @@
--- The words in which grammars are written.
+-- Combinators: the forms in terms of which grammars are written.
 use Rattle.std.specs.Prelude.{List, [], ◌∷◌, Option, Some, None, fold}
 use Rattle.hs_grammar.specs.Form.{Lexis, Rules, Form, Pure, Tok, Nt, Map, Seq, Alt, Loop, Step, More, Last}
 
