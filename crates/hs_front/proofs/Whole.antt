@@ -165,14 +165,14 @@ parsed_err s = Err s
 
 module _ (text : List ℕ) (tokens : List Token) where
   -- a file of the whole language
-  pub whole_only_break : {A : Type 0} (r : Result A ParseStop) → ((b : Broken) → Tells text tokens b → ⊥) → ((b : Broken) → ToldBehind text tokens b → OnlyBreak b r)
+  pub whole_only_break : {A : Type 0} (r : Result A ParseStop) → ((b : Broken) → Diagnosis text tokens b → ⊥) → ((b : Broken) → ToldBehind text tokens b → OnlyBreak b r)
       → (b : Broken) → ToldTokens text tokens b → OnlyBreak b r
   whole_only_break r none h b (inl t) = absurd (none b t)
   whole_only_break r none h b (inr (w, t)) = h b t
 
   -- none
   pub none_only_break : (s : ParseStop) → ((x : Whole) → IsRead text tokens x → (parsed_err s ≡ parsed_ok x) ⊎ Unanswered (parsed_err s))
-      → ((b : Broken) → Tells text tokens b → (parsed_err s ≡ parsed_err (stop.Broken b)) ⊎ Unanswered (parsed_err s))
+      → ((b : Broken) → Diagnosis text tokens b → (parsed_err s ≡ parsed_err (stop.Broken b)) ⊎ Unanswered (parsed_err s))
       → (b : Broken) → ToldTokens text tokens b → IsBreak b s
   none_only_break stop.NoMemory h k b t = tt
   none_only_break stop.TooDeep h k b t = tt
@@ -183,7 +183,7 @@ module _ (text : List ℕ) (tokens : List Token) where
 
 module _ (text : List ℕ) (one : (ts us : List Token) → Lexes text ts → Lexes text us → ts ≡ us)
     (lexed_apart : (ts : List Token) (b : Broken) → Lexes text ts → LexBreak text b → ⊥)
-    (read_apart : (ts : List Token) (x : Whole) (b : Broken) → IsRead text ts x → Tells text ts b → ⊥)
+    (read_apart : (ts : List Token) (x : Whole) (b : Broken) → IsRead text ts x → Diagnosis text ts b → ⊥)
     (unique : (w : List Symbol) (x y : File) → DerivesAs written AFile w x → DerivesAs written AFile w y → x ≡ y)
     (apart : (w rest : List Symbol) (x : File) → Breaks written AFile w rest → DerivesAs written AFile w x → ⊥) where
   -- no text has two programs
@@ -199,7 +199,7 @@ module _ (text : List ℕ) (one : (ts us : List Token) → Lexes text ts → Lex
   -- no rule is told of a text that is accepted
   pub accepted_apart : (p : List tree.Function) (b : Broken) → Accepted text p → Told text b → ⊥
   accepted_apart p b (ts, l, (w, a)) (inl h) = lexed_apart ts b l h
-  accepted_apart p b (ts, l, ((x, r), a)) (inr (us, k, inl h)) = read_apart ts x b r (subst (λ vs. Tells text vs b) (one us ts k l) h)
+  accepted_apart p b (ts, l, ((x, r), a)) (inr (us, k, inl h)) = read_apart ts x b r (subst (λ vs. Diagnosis text vs b) (one us ts k l) h)
   accepted_apart p b (ts, l, (w, (f, d, n, t, e))) (inr (us, k, inr (v, inl (at, (rest, h, r), i)))) =
       apart (symbols_of text ts) rest f (subst (λ vs. Breaks written AFile (symbols_of text vs) rest) (one us ts k l) h) d
   accepted_apart p b (ts, l, (w, (f, d, n, t, e))) (inr (us, k, inr (v, inr (g, c, (m, i, first))))) =
