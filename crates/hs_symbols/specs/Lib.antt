@@ -1,0 +1,4 @@
+pub mod Words
+pub mod Symbols
+pub mod Kept
+pub mod Ends
