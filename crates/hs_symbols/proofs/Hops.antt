@@ -1,5 +1,5 @@
 -- Hops from name to name.
-use Rattle.std.proofs.Common.{ℕ, zero, suc, ◌+◌, ◌≤◌, ◌≡◌, refl, sym, ◌∙◌, ap, subst, List, [], ◌∷◌, map, slice_get, Option, Some, None, option_map, arith}
+use Rattle.std.proofs.Common.{ℕ, zero, suc, ◌+◌, ◌≤◌, ◌≡◌, refl, sym, ◌∙◌, ap, List, map, slice_get, Option, Some, None, option_map, arith}
 use Rattle.std.proofs.lemmas.Option.{slice_get-map}
 use Rattle.hs_syntax.specs.declared.item.Item.{Item}
 use Rattle.hs_symbols.specs.declared.way.Way.{Way}

@@ -1,5 +1,5 @@
 -- Where the items of a file lead as names of types.
-use Rattle.std.specs.Prelude.{ℕ, zero, suc, ◌+◌, ◌≡◌, List, map, slice_get, Option, Some, None, option_map}
+use Rattle.std.specs.Prelude.{ℕ, zero, suc, ◌+◌, ◌≡◌, List, slice_get, Option, Some, None, option_map}
 use Rattle.hs_syntax.specs.declared.item.Item.{Item}
 use Rattle.hs_symbols.specs.declared.way.Way.{Way}
 use Rattle.hs_symbols.specs.declared.way.Way.TheVariants as way

@@ -1,5 +1,5 @@
 -- What the items of a file declare, and what a name stands for.
-use Rattle.std.specs.Prelude.{ℕ, zero, suc, ◌+◌, List, [], ◌∷◌, ◌++◌, Bool, true, false, bytes_eq, length, slice_get, Option, Some, None, option_map, map, is_some, if◌then◌else◌}
+use Rattle.std.specs.Prelude.{ℕ, zero, suc, ◌+◌, List, [], ◌∷◌, ◌++◌, Bool, true, false, bytes_eq, slice_get, Option, Some, None, option_map, map, is_some, if◌then◌else◌}
 use Rattle.hs_syntax.specs.declared.span.Span.{Span}
 use Rattle.hs_syntax.specs.Texts.{bytes_at}
 use Rattle.hs_syntax.specs.declared.ty.Ty.{Ty, out-Ty}

@@ -1,6 +1,5 @@
 -- The built-in names: the integer types, `bool`, `Seq`, `Option`, `Result`, `Some`, `None`, `Ok`, `Err` and the conversions.
-use Rattle.std.specs.Prelude.{ℕ, zero, suc, List, [], ◌∷◌, Bool, bytes_eq, codes, Option, Some, None, is_some, if◌then◌else◌}
-use Rattle.hs_words.specs.declared.kinds.IntTy.{IntTy}
+use Rattle.std.specs.Prelude.{ℕ, zero, suc, List, [], ◌∷◌, bytes_eq, codes, Option, Some, None, if◌then◌else◌}
 use Rattle.hs_words.specs.declared.kinds.IntTy.TheVariants as i
 use Rattle.hs_symbols.specs.declared.referent.BuiltIn.{BuiltIn}
 use Rattle.hs_symbols.specs.declared.referent.BuiltIn.TheVariants as b

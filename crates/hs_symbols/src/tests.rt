@@ -74,7 +74,8 @@ fn a_local_hides_a_constant(rt: HostRuntime) -> Result<(), NoMemory> {
     let symbols = Symbols::new(alloc, &file)?;
     let mut scope = Scope::new(alloc);
     assert_eq!(rt; symbols.value_named(&scope, b"C"), Some(Referent::Item(2)));
-    scope.bind(b"C", 4)?;
+    let name = symbols.spelled(span(32, 33));
+    scope.bind(name, 4)?;
     assert_eq!(rt; symbols.value_named(&scope, b"C"), Some(Referent::Local(4)));
     Ok(())
 }
