@@ -33,7 +33,7 @@ def told_by_grammar(sources):
 
 
 def main():
-    texts = dict(re.findall(r'^row_of (\w+) = \(\d+, codes "\w+", codes "(.*)"\)$', read("crates/hs_base/specs/Rules.antt"), re.M))
+    texts = dict(re.findall(r'^row_for (\w+) = \(\d+, codes "\w+", codes "(.*)"\)$', read("crates/hs_base/specs/Rules.antt"), re.M))
     page = read("docs/rules.md")
     faults = []
     rows = re.findall(r"^\| ([A-Z]\d+) \| (.*?) \| (.*?) \|", page, re.M)
