@@ -9,7 +9,7 @@ use Rattle.hs_lexer.specs.Pieces.{closed_after}
 abbrev pub closed_from : ℕ → ℕ → List ℕ → Option ℕ
 closed_from depth at s = option_map (λ n. n + at) (closed_after depth (drop at s))
 
-two_more : (o : Option ℕ) (i k : ℕ) → option_map (λ n. n + i) (option_map (λ n. n + k) o) ≡ option_map (λ n. n + (i + k)) o
+pub two_more : (o : Option ℕ) (i k : ℕ) → option_map (λ n. n + i) (option_map (λ n. n + k) o) ≡ option_map (λ n. n + (i + k)) o
 two_more None i k = refl
 two_more (Some n) i k = let e : n + k + i ≡ n + (i + k) = omega arith in ap (λ m. Some m) e
 
@@ -22,26 +22,26 @@ both s i h =
     ∙ ap (λ rest. get_or s i 0 ∷ rest) (drop_more s (i + 1) 0 h ∙ ap (λ n. get_or s (i + 1) 0 ∷ drop n s) place)
 
 -- what the two bytes at hand make of a comment
-step_opens : (depth a b : ℕ) (s : List ℕ) → a ≡ 47 → b ≡ 42
+pub step_opens : (depth a b : ℕ) (s : List ℕ) → a ≡ 47 → b ≡ 42
     → closed_after depth (a ∷ (b ∷ s)) ≡ option_map (λ n. n + 2) (closed_after (depth + 1) s)
 unfolding closed_after
 step_opens depth a b s e f = rw (e, f) refl
 
-step_last : (a b : ℕ) (s : List ℕ) → a ≡ 42 → b ≡ 47 → closed_after 0 (a ∷ (b ∷ s)) ≡ Some 2
+pub step_last : (a b : ℕ) (s : List ℕ) → a ≡ 42 → b ≡ 47 → closed_after 0 (a ∷ (b ∷ s)) ≡ Some 2
 unfolding closed_after
 step_last a b s e f = rw (e, f) refl
 
-step_closes : (depth a b : ℕ) (s : List ℕ) → a ≡ 42 → b ≡ 47 → eqb depth 0 ≡ false
+pub step_closes : (depth a b : ℕ) (s : List ℕ) → a ≡ 42 → b ≡ 47 → eqb depth 0 ≡ false
     → closed_after depth (a ∷ (b ∷ s)) ≡ option_map (λ n. n + 2) (closed_after (depth - 1) s)
 unfolding closed_after
 step_closes depth a b s e f more = rw (e, f, more) refl
 
-step_goes_on : (depth a b : ℕ) (s : List ℕ) → (eqb a 47 && eqb b 42) ≡ false → (eqb a 42 && eqb b 47) ≡ false
+pub step_goes_on : (depth a b : ℕ) (s : List ℕ) → (eqb a 47 && eqb b 42) ≡ false → (eqb a 42 && eqb b 47) ≡ false
     → closed_after depth (a ∷ (b ∷ s)) ≡ option_map (λ n. n + 1) (closed_after depth (b ∷ s))
 unfolding closed_after
 step_goes_on depth a b s e f = rw (e, f) refl
 
-step_ends : (depth : ℕ) (s : List ℕ) → length s ≤ 1 → closed_after depth s ≡ None
+pub step_ends : (depth : ℕ) (s : List ℕ) → length s ≤ 1 → closed_after depth s ≡ None
 unfolding closed_after
 step_ends depth [] h = refl
 step_ends depth (b ∷ []) h = refl

@@ -1,5 +1,6 @@
 pub mod Cuts
 pub mod Closings
+pub mod Comments
 pub mod Values
 pub mod Longest
 pub mod Names

@@ -2,6 +2,7 @@
 #![tactic(auto)]
 
 mod bytes;
+mod law;
 mod lexer;
 mod marks;
 mod number;
@@ -9,6 +10,7 @@ mod piece;
 mod token;
 
 pub use hs_base::place::place_behind;
+pub use law::comments_nest;
 pub use lexer::lex;
 pub use token::{Token, TokenKind, Tokens};
 
