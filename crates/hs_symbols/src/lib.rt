@@ -5,8 +5,6 @@ mod declared;
 mod paths;
 mod referent;
 mod symbols;
-#[cfg(test)]
-mod tests;
 mod way;
 mod words;
 
