@@ -1,0 +1,13 @@
+pub mod Binds
+pub mod Excludes
+pub mod Good
+pub mod Layers
+pub mod Left
+pub mod Lies
+pub mod Needs
+pub mod Outlined
+pub mod Patterns
+pub mod Places
+pub mod Rows
+pub mod Steps
+pub mod Walking

@@ -1,0 +1,5 @@
+pub mod Rules
+pub mod Parts
+pub mod Names
+pub mod Order
+pub mod Walks
