@@ -1,6 +1,7 @@
 #!/usr/bin/env python3
-"""Looks over docs/rules.md. Each text is that of crates/hs_base/specs/Rules.antt. Of each source of the rules on tokens and on the
-grammar the program tells that rule at that place; each other source is a file of the grammar, by the recogniser of tests/told.py.
+"""Looks over docs/rules.md. Each text is that of crates/hs_base/specs/Rules.antt. Of each source of the rules on tokens, on the
+grammar and on names the program tells that rule at that place; each other source is a file of the grammar, by the recogniser of
+tests/told.py.
 
     rules.py            at the top of the repository, once ./hs is built
 """
@@ -11,12 +12,18 @@ import subprocess
 import sys
 import tempfile
 
+NAMES = ("N1", "N2", "N3", "N4", "N5", "N6", "N7", "N10")
+
 TOP = os.path.dirname(os.path.dirname(os.path.abspath(__file__)))
 
 
 def read(path):
     with open(os.path.join(TOP, path), encoding="utf-8") as it:
         return it.read()
+
+
+def is_told(rule):
+    return rule[0] in "XG" or rule in NAMES
 
 
 def told_by_program(source):
@@ -44,9 +51,9 @@ def main():
         faults.append("a rule is missing, or stands twice")
     sources = re.findall(r"^\| ([A-Z]\d+) \| (.*?) \| `(.*)` \| (\d+:\d+) \|$", page, re.M)
     for rule, text, source, place in sources:
-        if rule[0] in "XG" and told_by_program(source) != f"{place}: {rule} {text}":
+        if is_told(rule) and told_by_program(source) != f"{place}: {rule} {text}":
             faults.append(f"{rule}: the program tells {told_by_program(source)}")
-    others = [(rule, source) for rule, _, source, _ in sources if rule[0] not in "XG"]
+    others = [(rule, source) for rule, _, source, _ in sources if not is_told(rule)]
     for (rule, _), told in zip(others, told_by_grammar([source for _, source in others])):
         if told != "a file":
             faults.append(f"{rule}: its source is no file: {told}")

@@ -57,7 +57,7 @@ fn tells_the_rule_and_the_place(rt: HostRuntime) -> Result<(), Fail> {
 #[test]
 fn tells_one_of_two(rt: HostRuntime) -> Result<(), Fail> {
     let table = [
-        // Tokens come before the grammar, the grammar before the first language, this before names, names before types.
+        // Tokens come before the grammar, the grammar before names, names before the first language, this before types.
         (
             "use a; $",
             "add.rs:1:8: X1 no token begins with this byte\n",
@@ -71,8 +71,8 @@ fn tells_one_of_two(rt: HostRuntime) -> Result<(), Fail> {
             "add.rs:1:27: G6 this closing bracket cannot stand here\n",
         ),
         (
-            "fn f(a: u32) -> u32 { b - 1 }",
-            "add.rs:1:25: G8 this word is not part of HS-1\n",
+            "fn f(a: u32) -> u32 { a - b }",
+            "add.rs:1:27: N3 unknown name\n",
         ),
         (
             "fn f(a: u32) -> u32 { a = 1; b }",

@@ -188,13 +188,10 @@ fn the_whole_grammar_is_told_before_the_first_language(rt: HostRuntime) {
 }
 
 #[test]
-fn the_first_language_is_told_before_names(rt: HostRuntime) {
+fn the_first_language_is_told_behind_names(rt: HostRuntime) {
     let table = [
         ("", 1),
         ("pub fn f(a: u32) -> u32 { a - 1 }", 29),
-        ("fn u64() -> u32 { 1 }", 4),
-        ("fn u32() -> u32 { 1 }", 4),
-        ("fn U128_from_U64() -> u32 { 1 }", 4),
         ("fn f(a: u32,) -> u32 { a }", 13),
         ("fn f(mut a: u32) -> u32 { a }", 6),
         ("fn f(a: u64) -> u32 { a }", 9),
@@ -210,8 +207,7 @@ fn the_first_language_is_told_before_names(rt: HostRuntime) {
         ("fn f(a: u32) -> u32 { a; }", 24),
         ("fn f(a: u32) -> u32 { a == 1; a }", 25),
         ("fn f(a: u32) -> u32 { a += 1; a }", 25),
-        ("fn f(a: u32) -> u32 { b - c }", 25),
-        ("fn f(a: u32) -> u32 { a } fn g() -> u32 { b }", 27),
+        ("fn f(a: u32) -> u32 { a } fn g() -> u32 { f(1) }", 27),
         ("use hacspec_lib::*;", 1),
     ];
     for (text, col) in &table {
@@ -262,6 +258,22 @@ fn names_are_told_in_their_order(rt: HostRuntime) {
         ("fn f(a: u32) -> u32 { a = 1; b }", Rule::N3, 30),
         ("fn f(a: u32) -> u32 { a = b; a }", Rule::N3, 27),
         ("fn f(a: u32) -> u32 { a = 1; b = 1; a }", Rule::N10, 30),
+        // Names of the whole language, whatever the first one has.
+        ("fn f(a: A) -> u32 { a - 1 }", Rule::N1, 9),
+        ("fn f() -> u64 { g() }", Rule::N2, 17),
+        ("fn f(a: u32) -> u32 { b - c }", Rule::N3, 23),
+        (
+            "fn f(a: u32) -> u32 { a } fn g() -> u32 { b }",
+            Rule::N3,
+            43,
+        ),
+        ("fn f() -> u32 { A::B }", Rule::N4, 17),
+        ("fn u64() -> u32 { 1 }", Rule::N5, 4),
+        ("fn u32() -> u32 { 1 }", Rule::N5, 4),
+        ("fn U128_from_U64() -> u32 { 1 }", Rule::N5, 4),
+        ("fn a() -> u32 { 1 } fn a() -> u32 { 2 }", Rule::N5, 24),
+        ("fn f() -> u32 { f() }", Rule::N7, 4),
+        ("fn f() -> u32 { f() + a }", Rule::N3, 23),
     ];
     for (text, rule, col) in &table {
         assert!(rt; is_told(rt.alloc(), text.as_bytes(), *rule, *col), "{text}");
