@@ -1,0 +1,9 @@
+mod Applied
+mod Bridge
+mod Frame
+mod Fresh
+mod Laws
+mod Programs
+mod Rows
+mod Texts
+mod Unused
