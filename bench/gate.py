@@ -6,11 +6,12 @@ the greatest memory of one process. Run it by hand at the top of the repository;
     gate.py NAME..      rt ci NAME..
 
 It looks at the processes once a second, so what ends sooner is missed: of each crate a few seconds. What rt ci says goes to
-standard error as it comes, the table to standard output.
+standard error as it comes, the table to standard output, also where the run is ended before its end (SIGINT or SIGTERM).
 """
 
 import collections
 import os
+import signal
 import subprocess
 import sys
 import time
@@ -53,15 +54,8 @@ def seen(pid):
     return crate.removesuffix("_tests"), kind, (int(stat[11]) + int(stat[12])) / TICKS, int(stat[21]) * 4096 / 1e6
 
 
-def main():
-    begun = time.time()
-    last = {}
-    with subprocess.Popen(["rt", "ci", *sys.argv[1:]], stdout=sys.stderr, stderr=subprocess.STDOUT) as gate:
-        while gate.poll() is None:
-            for pid in descendants(gate.pid):
-                if found := seen(pid):
-                    last[pid, found[0], found[1]] = found[2:]
-            time.sleep(1)
+def print_table(last, begun):
+    """Prints the minutes and the memory of each crate, by what was last seen of each process."""
     minutes = collections.defaultdict(lambda: collections.defaultdict(float))
     memory = collections.defaultdict(float)
     for (_, crate, kind), (seconds, megabytes) in last.items():
@@ -75,6 +69,22 @@ def main():
         print(f"| `{crate}` | {cells} | {memory[crate]:.0f} MB |")
     cells = " | ".join(f"{total[kind]:.1f}" for kind in ("proof", "tests", "edits"))
     print(f"| all | {cells} | |\n\n{(time.time() - begun) / 60:.0f} minutes by the clock on {os.cpu_count()} processors")
+
+
+def main():
+    begun = time.time()
+    last = {}
+    signal.signal(signal.SIGTERM, lambda *_: sys.exit(1))
+    with subprocess.Popen(["rt", "ci", *sys.argv[1:]], stdout=sys.stderr, stderr=subprocess.STDOUT) as gate:
+        try:
+            while gate.poll() is None:
+                for pid in descendants(gate.pid):
+                    if found := seen(pid):
+                        last[pid, found[0], found[1]] = found[2:]
+                time.sleep(1)
+        finally:
+            gate.terminate()
+            print_table(last, begun)
     return gate.returncode
 
 
