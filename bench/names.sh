@@ -8,7 +8,7 @@ set -eu
 rounds=${1:-20}
 cd "$(dirname "$0")/../crates/bench_names"
 rt run >/dev/null 2>&1
-for row in "functions 2048" "constants 2048" "aliases 4096" "locals 2048" "shadows 4096" "constructors 4096"; do
+for row in "functions 2048" "constants 2048" "aliases 4096" "locals 2048" "shadows 2040" "constructors 4096"; do
     python3 - $row "$rounds" <<'END'
 import resource, subprocess, sys
 
