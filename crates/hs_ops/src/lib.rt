@@ -18,6 +18,8 @@ mod tests;
 mod view;
 
 pub use catalog::{OPS, standard};
+pub use known::is_known;
+pub use name::name_of;
 pub use operation::{NumberOp, Operation, SingleOp};
 pub use row::{Kind, Kinds, OpRow, OpStop, PanicSet};
 pub use table::OpTable;
