@@ -1,0 +1,10 @@
+pub mod Whole
+pub mod Rules
+pub mod Meaning
+pub mod Nodes
+pub mod Marks
+pub mod Walk
+pub mod Declares
+pub mod Promises
+pub mod Sizes
+pub mod Rows
