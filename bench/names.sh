@@ -1,14 +1,14 @@
 #!/bin/sh
-# Looks for the names of made texts, twice as many parts the second time: functions and constants each of which needs the one behind
-# it, aliases of one another, locals of one function, blocks in one another that bind one name, and enums of 256 constructors. Prints
-# for each the milliseconds that one look took, and for the longer one how many times as long it took, which should be at most 2.3.
+# Looks for the names of made texts and for what their items declare, twice as many parts the second time: functions and constants
+# each of which needs the one behind it, aliases of one another, locals of one function, blocks in one another that bind one name,
+# enums of 256 constructors, and structs each of which has the one behind it twice. Prints for each the milliseconds that one look took, and for the longer one how many times as long it took, which should be at most 2.3.
 # Run it by hand at the top of the repository; it proves and builds crates/bench_names first. The first argument, if there is one, is
 # the number of rounds.
 set -eu
 rounds=${1:-20}
 cd "$(dirname "$0")/../crates/bench_names"
 rt run >/dev/null 2>&1
-for row in "functions 2048" "constants 2048" "aliases 4096" "locals 2048" "shadows 2040" "constructors 4096"; do
+for row in "functions 2048" "constants 2048" "aliases 4096" "locals 2048" "shadows 2040" "constructors 4096" "structs 4096"; do
     python3 - $row "$rounds" <<'END'
 import resource, subprocess, sys
 

@@ -1,7 +1,7 @@
 #!/usr/bin/env python3
 """Looks over docs/rules.md. Each text is that of crates/hs_base/specs/Rules.antt. Of each source of the rules on tokens, on the
-grammar and on names the program tells that rule at that place; each other source is a file of the grammar, by the recogniser of
-tests/told.py.
+grammar, on names and on declarations the program tells that rule at that place; each other source is a file of the grammar, by the
+recogniser of tests/told.py.
 
     rules.py            at the top of the repository, once ./hs is built
 """
@@ -12,8 +12,6 @@ import subprocess
 import sys
 import tempfile
 
-NAMES = ("N1", "N2", "N3", "N4", "N5", "N6", "N7", "N10")
-
 TOP = os.path.dirname(os.path.dirname(os.path.abspath(__file__)))
 
 
@@ -23,7 +21,7 @@ def read(path):
 
 
 def is_told(rule):
-    return rule[0] in "XG" or rule in NAMES
+    return rule[0] in "XGN"
 
 
 def told_by_program(source):

@@ -1,13 +1,14 @@
-//! Looks for the names of made texts, so that the time that it takes can be measured.
+//! Looks for the names of made texts and for what their items declare, so that the time that it takes can be measured.
 //!
-//! `bench_names KIND COUNT ROUNDS` makes a text with so many parts, looks for its names so often, and prints how many items are in
-//! order, or the rule that is told. KIND is `functions`, each of which calls the one behind it; `constants`, each of which needs
+//! `bench_names KIND COUNT ROUNDS` makes a text with so many parts, looks for its names and declarations so often, and prints how
+//! many items declare something or nothing, or the rule that is told. KIND is `functions`, each of which calls the one behind it; `constants`, each of which needs
 //! the one behind it; `aliases`, each of which names the one behind it; `locals` of one function; `shadows`, blocks in one another
-//! that each bind one name; or `constructors`, enums of 256 of them, each of which is named. Without arguments it takes 16 parts
-//! of each kind once.
+//! that each bind one name; `constructors`, enums of 256 of them, each of which is named; or `structs`, ten in a row, each of which
+//! but the last has the one behind it twice. Without arguments it takes 16 parts of each kind once.
 #![tactic(auto)]
 
 use hs_base::place::Stop;
+use hs_items::items;
 use hs_lexer::lex;
 use hs_parser::{ParseStop, parse};
 use hs_resolver::resolve;
@@ -15,13 +16,14 @@ use std::alloc::{AllocError, Global};
 use std::{env, io};
 
 /// The kinds of texts.
-const KINDS: [&str; 6] = [
+const KINDS: [&str; 7] = [
     "functions",
     "constants",
     "aliases",
     "locals",
     "shadows",
     "constructors",
+    "structs",
 ];
 
 /// Parts, each with its number and the next one's, and a last one.
@@ -94,6 +96,21 @@ fn constructors(alloc: Global, count: usize) -> Result<String, AllocError> {
     Ok(text)
 }
 
+/// Rows of ten structs, each of which but the last has the one behind it twice.
+fn structs(alloc: Global, count: usize) -> Result<String, AllocError> {
+    let mut text = String::new(alloc);
+    for number in 0..count {
+        let next = number + 1;
+        let part = if next % 10 == 0 || next == count {
+            format!(in alloc; "struct S{number}(u8); ")?
+        } else {
+            format!(in alloc; "struct S{number}(S{next}, S{next}); ")?
+        };
+        text.push_str(&part)?;
+    }
+    Ok(text)
+}
+
 /// A text of a kind; an empty one, where there is no such kind.
 fn made(alloc: Global, kind: &str, count: usize) -> Result<String, AllocError> {
     match kind {
@@ -113,12 +130,13 @@ fn made(alloc: Global, kind: &str, count: usize) -> Result<String, AllocError> {
         "locals" => locals(alloc, count),
         "shadows" => shadows(alloc, count),
         "constructors" => constructors(alloc, count),
+        "structs" => structs(alloc, count),
         _ => Ok(String::new(alloc)),
     }
 }
 
-/// How many items are in order.
-fn items_in_order(alloc: Global, text: &[u8], rounds: usize) -> Result<usize, Stop> {
+/// How many items there are of which it is known what they declare.
+fn items_known(alloc: Global, text: &[u8], rounds: usize) -> Result<usize, Stop> {
     let tokens = lex(alloc, text)?;
     let file = match parse(alloc, &tokens, text) {
         Ok(file) => file,
@@ -127,7 +145,8 @@ fn items_in_order(alloc: Global, text: &[u8], rounds: usize) -> Result<usize, St
     };
     let mut count = 0;
     for _ in 0..rounds {
-        count = resolve(alloc, &file)?.order.len();
+        let names = resolve(alloc, &file)?;
+        count = items(alloc, &file, &names)?.items.len();
     }
     Ok(count)
 }
@@ -140,7 +159,7 @@ fn print_answer(
     rounds: usize,
 ) -> io::Result<()> {
     let text = made(alloc, kind, count)?;
-    match items_in_order(alloc, text.as_bytes(), rounds) {
+    match items_known(alloc, text.as_bytes(), rounds) {
         Ok(items) => println!(rt; "{kind}: {items} items"),
         Err(Stop::Broken(broken)) => {
             let code = broken.rule.code();

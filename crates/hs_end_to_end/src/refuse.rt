@@ -57,7 +57,8 @@ fn tells_the_rule_and_the_place(rt: HostRuntime) -> Result<(), Fail> {
 #[test]
 fn tells_one_of_two(rt: HostRuntime) -> Result<(), Fail> {
     let table = [
-        // Tokens come before the grammar, the grammar before names, names before the first language, this before types.
+        // Tokens come before the grammar, the grammar before names, names before declarations, these before the first
+        // language, this before types.
         (
             "use a; $",
             "add.rs:1:8: X1 no token begins with this byte\n",
@@ -73,6 +74,14 @@ fn tells_one_of_two(rt: HostRuntime) -> Result<(), Fail> {
         (
             "fn f(a: u32) -> u32 { a - b }",
             "add.rs:1:27: N3 unknown name\n",
+        ),
+        (
+            "bytes!(K, 0); fn f(a: u32) -> u32 { b }",
+            "add.rs:1:37: N3 unknown name\n",
+        ),
+        (
+            "fn f(a: u32) -> u32 { a - 1 } bytes!(K, 0);",
+            "add.rs:1:31: N8 an array has 1 to 65,536 items, inner items counted\n",
         ),
         (
             "fn f(a: u32) -> u32 { a = 1; b }",

@@ -6,6 +6,7 @@ pub mod Walks
 pub mod Walked
 pub mod Flat
 pub mod Order
+pub mod Kept
 pub mod Whole
 pub mod Names
 pub mod Fair

@@ -14,15 +14,14 @@ use Rattle.hs_lexer.specs.Places.{Placed}
 use Rattle.hs_lexer.specs.Lexes.{Lexes, LexBreak}
 use Rattle.hs_syntax.specs.declared.file.File.{File as Whole}
 use Rattle.hs_parser.specs.Told.{IsFile, IsRead, Diagnosis, Unanswered}
-use Rattle.hs_resolver.specs.declared.names.Names.{Names}
-use Rattle.hs_resolver.specs.Order.{KeepsNames, TellsNames, Resolves}
 use Rattle.hs_front.specs.declared.symbol.Symbol.{Symbol}
 use Rattle.hs_front.specs.declared.syntax.File.{File}
 use Rattle.hs_front.specs.Symbols.{symbols_of}
 use Rattle.hs_front.specs.Written.{AFile, written}
 use Rattle.hs_front.specs.Marks.{Mark, name_marks, type_marks, IsFirst}
 use Rattle.hs_front.specs.Program.{program_from}
-use Rattle.hs_front.specs.Told.{AcceptedBehind, AcceptedTokens, Accepted, break_at, told_at, FileBreak, ToldBehind, IsWhole, NamesBreak, ToldTokens, Told}
+use Rattle.hs_front.specs.Stages.{KeepsRules, TellsRules, Keeps}
+use Rattle.hs_front.specs.Told.{AcceptedBehind, AcceptedTokens, Accepted, break_at, told_at, FileBreak, ToldBehind, IsWhole, RulesBreak, ToldTokens, Told}
 use Rattle.hs_front.specs.Walk.{Makes, Breaks as Marked, file_walk, Gives}
 use Rattle.hs_front.specs.Answers.{Only, IsFree, OnlyBreak, IsBreak, OnBreak}
 use Rattle.hs_front.proofs.Walked.{IsHead, FileAgrees, file_agrees}
@@ -165,16 +164,16 @@ parsed_ok x = Ok x
 abbrev parsed_err : ParseStop → Parsed
 parsed_err s = Err s
 
--- what was answered of the names
-abbrev named_err : Stop → Result Names Stop
-named_err s = Err s
+-- what was answered of the rules of the stages behind
+abbrev ruled_err : Stop → Result (Unit {0}) Stop
+ruled_err s = Err s
 
 -- the same stop, of the parser
 abbrev pub parse_stop : Stop → ParseStop
 parse_stop s = elim s [ lexed.Broken b ↦ stop.Broken b | lexed.NoMemory ↦ stop.NoMemory ]
 
 module _ (text : List ℕ) (tokens : List Token) where
-  -- a file of the whole language whose names break no rule
+  -- a file of the whole language that breaks no rule of the stages behind
   pub whole_accepted : {A : Type 0} (of : A → List tree.Function) (r : Result A ParseStop) → IsWhole text tokens → IfOk r (λ p. AcceptedBehind text tokens (of p))
       → IfOk r (λ p. AcceptedTokens text tokens (of p))
   whole_accepted of (Ok p) w a = (w, a)
@@ -186,51 +185,51 @@ module _ (text : List ℕ) (tokens : List Token) where
   whole_told (Err stop.TooDeep) w t = tt
   whole_told (Err stop.NoMemory) w t = tt
 
-  -- what is said of the names of a file is said of the one that is read
+  -- what is said of a file is said of the one that is read
   module _ (read_one : (text : List ℕ) (tokens : List Token) (x y : Whole) → IsFile text tokens x → IsFile text tokens y → x ≡ y)
       (read_apart : (text : List ℕ) (tokens : List Token) (x : Whole) (b : Broken) → IsRead text tokens x → Diagnosis text tokens b → ⊥)
-      (names_apart : (x : Whole) (b : Broken) → KeepsNames x → TellsNames x b → ⊥) (x : Whole) (r : IsRead text tokens x) where
-    keeps : IsWhole text tokens → KeepsNames x
-    keeps (y, q, k) = subst KeepsNames (read_one text tokens y x q.0 r.0) k
+      (rules_apart : (x : Whole) (b : Broken) → KeepsRules x → TellsRules x b → ⊥) (x : Whole) (r : IsRead text tokens x) where
+    keeps : IsWhole text tokens → KeepsRules x
+    keeps (y, q, k) = subst KeepsRules (read_one text tokens y x q.0 r.0) k
 
-    tells : (b : Broken) → NamesBreak text tokens b → TellsNames x b
-    tells b (y, q, h) = subst (λ z. TellsNames z b) (read_one text tokens y x q.0 r.0) h
+    tells : (b : Broken) → RulesBreak text tokens b → TellsRules x b
+    tells b (y, q, h) = subst (λ z. TellsRules z b) (read_one text tokens y x q.0 r.0) h
 
-    -- where the names break no rule: what is told behind them, and nothing else
-    pub kept_only_break : {A : Type 0} (a : Result A ParseStop) → KeepsNames x → ((b : Broken) → ToldBehind text tokens b → OnlyBreak b a)
+    -- where these rules are kept: what is told behind them, and nothing else
+    pub kept_only_break : {A : Type 0} (a : Result A ParseStop) → KeepsRules x → ((b : Broken) → ToldBehind text tokens b → OnlyBreak b a)
         → (b : Broken) → ToldTokens text tokens b → OnlyBreak b a
     kept_only_break a k h b (inl t) = absurd (read_apart text tokens x b r t)
-    kept_only_break a k h b (inr (inl t)) = absurd (names_apart x b k (tells b t))
+    kept_only_break a k h b (inr (inl t)) = absurd (rules_apart x b k (tells b t))
     kept_only_break a k h b (inr (inr (w, t))) = h b t
 
     -- where they break one
-    module _ (s : Stop) (p : ParseStop) (e : p ≡ parse_stop s) (made : Resolves x (Err s)) where
-      pub named_told : (A : Type 0) (a : Result A ParseStop) → a ≡ Err p → OnBreak a (ToldTokens text tokens)
-      named_told A a f = subst (λ b. OnBreak b (ToldTokens text tokens)) (sym (f ∙ ap (λ q. Err q) e)) (go s made)
+    module _ (s : Stop) (p : ParseStop) (e : p ≡ parse_stop s) (made : Keeps {A = Unit {0}} x (Err s)) where
+      pub broken_told : (A : Type 0) (a : Result A ParseStop) → a ≡ Err p → OnBreak a (ToldTokens text tokens)
+      broken_told A a f = subst (λ b. OnBreak b (ToldTokens text tokens)) (sym (f ∙ ap (λ q. Err q) e)) (go s made)
         where
-          go : (s : Stop) → Resolves x (Err s) → OnBreak {A = A} (Err (parse_stop s)) (ToldTokens text tokens)
+          go : (s : Stop) → Keeps {A = Unit {0}} x (Err s) → OnBreak {A = A} (Err (parse_stop s)) (ToldTokens text tokens)
           go (lexed.Broken b) t = inr (inl (x, r, t))
           go lexed.NoMemory t = tt
 
       -- no program is accepted
-      pub named_only : (q : List tree.Function) → AcceptedTokens text tokens q → IsFree p
-      named_only q (w, a) = subst IsFree (sym e) (go s made)
+      pub broken_only : (q : List tree.Function) → AcceptedTokens text tokens q → IsFree p
+      broken_only q (w, a) = subst IsFree (sym e) (go s made)
         where
-          go : (s : Stop) → Resolves x (Err s) → IsFree (parse_stop s)
-          go (lexed.Broken b) t = absurd (names_apart x b (keeps w) t)
+          go : (s : Stop) → Keeps {A = Unit {0}} x (Err s) → IsFree (parse_stop s)
+          go (lexed.Broken b) t = absurd (rules_apart x b (keeps w) t)
           go lexed.NoMemory t = tt
 
       -- nothing else is told
-      pub named_only_break : ((b : Broken) → TellsNames x b → (named_err s ≡ named_err (lexed.Broken b)) ⊎ (named_err s ≡ named_err lexed.NoMemory))
+      pub broken_only_break : ((b : Broken) → TellsRules x b → (ruled_err s ≡ ruled_err (lexed.Broken b)) ⊎ (ruled_err s ≡ ruled_err lexed.NoMemory))
           → (b : Broken) → ToldTokens text tokens b → IsBreak b p
-      named_only_break only b told = subst (IsBreak b) (sym e) (go s made (only b) told)
+      broken_only_break only b told = subst (IsBreak b) (sym e) (go s made (only b) told)
         where
-          go : (s : Stop) → Resolves x (Err s) → (TellsNames x b → (named_err s ≡ named_err (lexed.Broken b)) ⊎ (named_err s ≡ named_err lexed.NoMemory))
+          go : (s : Stop) → Keeps {A = Unit {0}} x (Err s) → (TellsRules x b → (ruled_err s ≡ ruled_err (lexed.Broken b)) ⊎ (ruled_err s ≡ ruled_err lexed.NoMemory))
               → ToldTokens text tokens b → IsBreak b (parse_stop s)
           go lexed.NoMemory t only told = tt
           go (lexed.Broken c) t only (inl d) = absurd (read_apart text tokens x b r d)
           go (lexed.Broken c) t only (inr (inl h)) = elim (only (tells b h)) [ inl f ↦ cc | inr f ↦ absurd (cc) ]
-          go (lexed.Broken c) t only (inr (inr (w, h))) = absurd (names_apart x c (keeps w) t)
+          go (lexed.Broken c) t only (inr (inr (w, h))) = absurd (rules_apart x c (keeps w) t)
 
   -- none
   pub none_only_break : (s : ParseStop) → ((x : Whole) → IsRead text tokens x → (parsed_err s ≡ parsed_ok x) ⊎ Unanswered (parsed_err s))
@@ -248,7 +247,7 @@ module _ (text : List ℕ) (one : (ts us : List Token) → Lexes text ts → Lex
     (lexed_apart : (ts : List Token) (b : Broken) → Lexes text ts → LexBreak text b → ⊥)
     (read_apart : (ts : List Token) (x : Whole) (b : Broken) → IsRead text ts x → Diagnosis text ts b → ⊥)
     (read_one : (ts : List Token) (x y : Whole) → IsRead text ts x → IsRead text ts y → x ≡ y)
-    (kept_apart : (x : Whole) (b : Broken) → KeepsNames x → TellsNames x b → ⊥)
+    (rules_apart : (x : Whole) (b : Broken) → KeepsRules x → TellsRules x b → ⊥)
     (unique : (w : List Symbol) (x y : File) → DerivesAs written AFile w x → DerivesAs written AFile w y → x ≡ y)
     (apart : (w rest : List Symbol) (x : File) → Breaks written AFile w rest → DerivesAs written AFile w x → ⊥) where
   -- no text has two programs
@@ -267,7 +266,7 @@ module _ (text : List ℕ) (one : (ts us : List Token) → Lexes text ts → Lex
   accepted_apart p b (ts, l, ((x, r, n), a)) (inr (us, k, inl h)) = read_apart ts x b r (subst (λ vs. Diagnosis text vs b) (one us ts k l) h)
   accepted_apart p b (ts, l, ((x, r, n), a)) (inr (us, k, inr (inl (y, q, h)))) =
       let same : y ≡ x = read_one ts y x (subst (λ vs. IsRead text vs y) (one us ts k l) q) r in
-      kept_apart x b n (subst (λ z. TellsNames z b) same h)
+      rules_apart x b n (subst (λ z. TellsRules z b) same h)
   accepted_apart p b (ts, l, (w, (f, d, n, t, e))) (inr (us, k, inr (inr (v, inl (at, (rest, h, r), i))))) =
       apart (symbols_of text ts) rest f (subst (λ vs. Breaks written AFile (symbols_of text vs) rest) (one us ts k l) h) d
   accepted_apart p b (ts, l, (w, (f, d, n, t, e))) (inr (us, k, inr (inr (v, inr (g, c, (m, i, first)))))) =

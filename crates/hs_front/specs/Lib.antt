@@ -9,6 +9,7 @@ pub mod Agree
 pub mod Scope
 pub mod Marks
 pub mod Program
+pub mod Stages
 pub mod Told
 pub mod Walk
 pub mod Locals

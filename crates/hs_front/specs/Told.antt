@@ -11,20 +11,20 @@ use Rattle.hs_lexer.specs.Lexes.{Lexes, LexBreak}
 use Rattle.hs_syntax.specs.declared.file.File.{File as Whole}
 use Rattle.hs_forms.specs.Tokens.{tokens_of}
 use Rattle.hs_parser.specs.Told.{IsRead, Diagnosis, NestsTooDeep}
-use Rattle.hs_resolver.specs.Order.{KeepsNames, TellsNames}
 use Rattle.hs_front.specs.declared.syntax.File.{File}
+use Rattle.hs_front.specs.Stages.{KeepsRules, TellsRules}
 use Rattle.hs_front.specs.Symbols.{symbols_of}
 use Rattle.hs_front.specs.Written.{AFile, written}
 use Rattle.hs_front.specs.Marks.{Mark, name_marks, type_marks, IsFirst}
 use Rattle.hs_front.specs.Program.{program_from}
 
--- the tokens are a file of the whole language, which passes no limit and whose names break no rule
+-- the tokens are a file of the whole language, which passes no limit and breaks no rule of the stages behind
 abbrev pub IsWhole : List ℕ → List Token → Type 0
-IsWhole text tokens = (x : Whole) × IsRead text tokens x × KeepsNames x
+IsWhole text tokens = (x : Whole) × IsRead text tokens x × KeepsRules x
 
--- the tokens are a file of the whole language which passes no limit, and this is told of its names
-abbrev pub NamesBreak : List ℕ → List Token → Broken → Type 0
-NamesBreak text tokens b = (x : Whole) × IsRead text tokens x × TellsNames x b
+-- the tokens are a file of the whole language which passes no limit, and this is told of it by the stages behind
+abbrev pub RulesBreak : List ℕ → List Token → Broken → Type 0
+RulesBreak text tokens b = (x : Whole) × IsRead text tokens x × TellsRules x b
 
 -- the first language's grammar derives a file from these tokens of the text, its names break no rule, and this is its program
 abbrev pub AcceptedBehind : List ℕ → List Token → List tree.Function → Type 0
@@ -71,9 +71,9 @@ ToldBehind text tokens b =
     GrammarBreak text tokens b ⊎ ((f : File) × DerivesAs written AFile (symbols_of text tokens) f × FileBreak text f b)
 
 -- this is told of the tokens: what breaks the whole language's grammar, or a limit that its file passes; or else what its names
--- break; or else what the first language tells of them
+-- or its declarations break; or else what the first language tells of them
 abbrev pub ToldTokens : List ℕ → List Token → Broken → Type 0
-ToldTokens text tokens b = Diagnosis text tokens b ⊎ (NamesBreak text tokens b ⊎ (IsWhole text tokens × ToldBehind text tokens b))
+ToldTokens text tokens b = Diagnosis text tokens b ⊎ (RulesBreak text tokens b ⊎ (IsWhole text tokens × ToldBehind text tokens b))
 
 -- this is told of the text: what breaks its tokens, or else what is told of these
 abbrev pub Told : List ℕ → Broken → Type 0

@@ -14,6 +14,7 @@ ghost use Rattle.hs_front.specs.Answers.{Only, OnlyBreak, OnBreak};
 
 use crate::parse::{Language, read};
 use crate::resolve::Resolver;
+use crate::stages::{look_over, stages_exclude};
 use crate::symbol::symbols;
 use hs_base::place::Broken;
 use hs_base::rule::Rule;
@@ -21,7 +22,6 @@ use hs_grammar::error::Refusal;
 use hs_grammar::grammar::exact;
 use hs_lexer::{Token, Tokens, lex};
 use hs_parser::{ParseStop, parse, unambiguous};
-use hs_resolver::{names_exclude, resolve};
 use hs_tree::features::Src;
 use hs_tree::program::Program;
 use std::alloc::Global;
@@ -62,7 +62,7 @@ fn checked(alloc: Global, bytes: &[u8], tokens: &[Token]) -> Result<Program<Src>
 
 /// The program of a text with these tokens, which the whole language's grammar is to derive too.
 ///
-/// Broken: what `parse` tells, else what `resolve` does, and else what `checked` does.
+/// Broken: what `parse` tells, else what `look_over` does, and else what `checked` does.
 fn behind_tokens(alloc: Global, bytes: &[u8], tokens: &Tokens) -> Result<Program<Src>, ParseStop>
     requires placed { Placed 0 (length bytes.now) tokens.now }
     requires named { All (IsNamed bytes.now) tokens.now }
@@ -74,9 +74,9 @@ fn behind_tokens(alloc: Global, bytes: &[u8], tokens: &Tokens) -> Result<Program
     ensures too_deep { result ≡ Err ParseStop.TooDeep → NestsTooDeep (tokens_of bytes.now tokens.now) }
 {
     unambiguous();
-    names_exclude();
+    stages_exclude();
     let file = parse(alloc, tokens, bytes)?;
-    resolve(alloc, &file)?;
+    look_over(alloc, &file)?;
     checked(alloc, bytes, tokens.as_slice())
 }
 
@@ -85,8 +85,9 @@ fn behind_tokens(alloc: Global, bytes: &[u8], tokens: &Tokens) -> Result<Program
 /// Broken: the text breaks a rule of the language, and the told one is answered. X1 to X6, S1 and S9 are told of its
 /// tokens, as `lex` tells them. Then the grammar of the whole source language is looked at, and the limits on its file: G1 to
 /// G8, S2, S4, S6 and S8 are told as `parse` tells them. Then its names are looked for: N1 to N7, N10, S3, S5 and S7 are told as
-/// `resolve` tells them. Of a file of the whole language whose names break no rule G8 is told at the first token with which no
-/// file of the first language goes on, or at the end of the text where it ends too early; such a file has at most 32 parameters
+/// `resolve` tells them. Then what its items declare is looked at: N8, N9, N11, N12 and S2 are told as `items` tells them. Of a
+/// file of the whole language that breaks none of these rules G8 is told at the first token with which no file of the first
+/// language goes on, or at the end of the text where it ends too early; such a file has at most 32 parameters
 /// and 1,024 statements, a sum at most 61 `+`. Of a file of the first language T11 is told at the first assigned name whose local
 /// is not `mut`.
 /// `TooDeep` comes only where the tokens nest deeper than `parse` always reads. `NoMemory` comes only for want of memory.
@@ -102,7 +103,7 @@ pub fn check(alloc: Global, bytes: &[u8]) -> Result<Program<Src>, ParseStop>
 {
     exact::<Language>();
     unambiguous();
-    names_exclude();
+    stages_exclude();
     match lex(alloc, bytes) {
         Ok(tokens) => behind_tokens(alloc, bytes, &tokens),
         Err(stop) => Err(ParseStop::from(stop)),

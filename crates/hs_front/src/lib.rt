@@ -6,6 +6,7 @@ mod kinds;
 mod parse;
 mod resolve;
 mod scope;
+mod stages;
 mod symbol;
 mod syntax;
 #[cfg(test)]

@@ -281,6 +281,28 @@ fn names_are_told_in_their_order(rt: HostRuntime) {
 }
 
 #[test]
+fn declarations_are_told_behind_names(rt: HostRuntime) {
+    let table = [
+        ("bytes!(K, 0); fn f() -> u32 { 1 }", Rule::N8, 1),
+        ("array!(A, 65537, u8);", Rule::N8, 1),
+        ("#[derive(Copy)] struct S(Seq<u8>);", Rule::N9, 1),
+        ("fn f() -> u32 { 1 } array!(A, 2, Seq<u8>);", Rule::N11, 21),
+        (
+            "nat_mod!(type_name: F, type_of_canvas: C, bit_size_of_field: 8, modulo_value: \"0b\");",
+            Rule::N12,
+            1,
+        ),
+        // A name is told first, wherever it stands, and the first language comes last.
+        ("bytes!(K, 0); fn f() -> u32 { a }", Rule::N3, 31),
+        ("fn f() -> u32 { 1 - 1 } bytes!(K, 0);", Rule::N8, 25),
+        ("bytes!(K, 1);", Rule::G8, 1),
+    ];
+    for (text, rule, col) in &table {
+        assert!(rt; is_told(rt.alloc(), text.as_bytes(), *rule, *col), "{text}");
+    }
+}
+
+#[test]
 fn lines_and_columns_are_counted_from_one(rt: HostRuntime) {
     let table: [(&[u8], Rule, u64, u64, u64); 9] = [
         (
