@@ -2,7 +2,7 @@
 use Rattle.std.proofs.Common.{arith, ◌≡◌, ℕ, ◌+◌, ◌<◌, ◌≤◌, true, List, [], ◌∷◌, length, inl, inr, None, Some, Option, Result, Ok, Err, IfOk, bytes_eq, refl, sym, ap, subst, replicate, if◌then◌else◌}
 use Rattle.std.proofs.lemmas.Slice.Eq.{bytes_eq-Decides}
 use Rattle.std.proofs.lemmas.List.{length-replicate}
-use Rattle.hs_tree.specs.Plain as tree
+use Rattle.hs_first_tree.specs.Plain as tree
 use Rattle.hs_base.specs.declared.place.Broken.{Broken}
 use Rattle.hs_parser.specs.declared.stop.ParseStop.{ParseStop}
 use Rattle.hs_parser.specs.declared.stop.ParseStop.TheVariants as stops

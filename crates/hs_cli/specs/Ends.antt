@@ -1,7 +1,7 @@
 -- What a call left on the sinks, and with which status.
 use Rattle.std.specs.Prelude.{◌≡◌, ◌≢◌, ℕ, ◌≤◌, List, length, Option, Some, None, ⊤}
 use Rattle.std.specs.Io.KnownBytes.{Keeps, Appends}
-use Rattle.hs_tree.specs.Plain as tree
+use Rattle.hs_first_tree.specs.Plain as tree
 use Rattle.hs_front.specs.Told.{Accepted, Told}
 use Rattle.hs_base.specs.Causes.{TookPrefix}
 use Rattle.hs_base.specs.declared.place.Broken.{Broken}

@@ -1,6 +1,6 @@
 -- What a call writes, by its words and the files.
 use Rattle.std.specs.Prelude.{◌≡◌, ◌⊎◌, ℕ, ◌<◌, ◌≤◌, List, [], length, ⊤, Option, Some, None}
-use Rattle.hs_tree.specs.Plain as tree
+use Rattle.hs_first_tree.specs.Plain as tree
 use Rattle.hs_front.specs.Told.{Accepted, Told}
 use Rattle.hs_base.specs.Contents.{Entry, bytes_under}
 use Rattle.hs_base.specs.declared.place.Broken.{Broken}

@@ -2,9 +2,9 @@
 
 ghost use Rattle.std.specs.Prelude.{◌≡◌, ℕ, ◌≤◌, List, [], map, string_bytes, length, true, IfOk, IsNone};
 ghost use Rattle.hs_base.specs.Causes.{Rose};
-ghost use Rattle.hs_tree.specs.Of.{program_of};
-ghost use Rattle.hs_tree.specs.Features.{src};
-ghost use Rattle.hs_tree.specs.Sound.{Sound};
+ghost use Rattle.hs_first_tree.specs.Of.{program_of};
+ghost use Rattle.hs_first_tree.specs.Features.{src};
+ghost use Rattle.hs_first_tree.specs.Sound.{Sound};
 ghost use Rattle.hs_em.specs.Of.{module_of};
 ghost use Rattle.hs_em.specs.Spelled.{is_module_name};
 ghost use Rattle.hs_fstar.specs.Layout.{layout};
@@ -19,13 +19,13 @@ use crate::status::Status;
 use hs_base::outside::{FetchFault, Files};
 use hs_base::place::Broken;
 use hs_em::module::Module;
+use hs_first_tree::features::Src;
+use hs_first_tree::program::Program;
 use hs_front::check::check;
 use hs_fstar::law::{layouts_are_read, texts_are_read_once};
 use hs_fstar::print::print;
 use hs_parser::ParseStop;
 use hs_pipeline::emit;
-use hs_tree::features::Src;
-use hs_tree::program::Program;
 use std::alloc::{AllocError, Global};
 
 /// The greatest length of a source, in bytes.

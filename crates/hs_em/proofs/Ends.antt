@@ -2,8 +2,8 @@
 use Rattle.std.proofs.Common.{◌≡◌, ℕ, zero, suc, ◌+◌, ◌^◌, List, [], ◌∷◌, map, Option, Some, None, Bool, true, false, ◌||◌, cond, ltb, codes, refl, sym, ap, ◌∙◌, subst, arith}
 use Rattle.std.specs.Prelude.{option_map, slice_get}
 use Rattle.std.proofs.lemmas.Bool.{true≢false, lt-ltb, ltb-true}
-use Rattle.hs_tree.specs.Value.{ValType, U32, Value, Number, Overflow, Fits, FitsAll}
-use Rattle.hs_tree.specs.Operation.{Is, Fails, applied}
+use Rattle.hs_first_tree.specs.Value.{ValType, U32, Value, Number, Overflow, Fits, FitsAll}
+use Rattle.hs_first_tree.specs.Operation.{Is, Fails, applied}
 use Rattle.hs_em.specs.Plain.{EmVar, Em, local, number, op, bind, given, Ems, no_ems, em, EmPar, EmDef, Module}
 use Rattle.hs_em.specs.Spelled.{SpelledEm, SpelledEms, SpelledDefs, Spelled}
 use Rattle.hs_em.specs.Scoped.{has_var, count, ScopedEm, ScopedEms, vars_of, ScopedDefs, Scoped}

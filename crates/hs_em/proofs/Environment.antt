@@ -4,8 +4,8 @@ use Rattle.std.specs.Prelude.{bytes_eq, option_map, slice_get}
 use Rattle.std.proofs.Math.Path.{fun_ext}
 use Rattle.std.proofs.lemmas.Bool.{true≢false, eqb-true, eq-eqb, and_parts, and_from}
 use Rattle.std.proofs.lemmas.Slice.Eq.{bytes_eq-Decides}
-use Rattle.hs_tree.specs.Value.{Value}
-use Rattle.hs_tree.specs.Operation.{applied}
+use Rattle.hs_first_tree.specs.Value.{Value}
+use Rattle.hs_first_tree.specs.Operation.{applied}
 use Rattle.hs_em.specs.Plain.{EmVar, Em, local, number, op, bind, given, Ems, no_ems, em, EmPar, EmDef, Module}
 use Rattle.hs_em.specs.Environment.{Env, unbound, bound, looked, evaluated, all_evaluated, env_of, evaluated_in, called_in}
 use Rattle.hs_em.specs.Means.{Meaning, stuck, more, and_then, operated, same_var, substituted, all_substituted, height, heights, meanings, meaning_within, meaning, entered, meaning_of, of_type, called, means}

@@ -1,6 +1,6 @@
 -- Small modules and what they mean, computed.
 use Rattle.std.proofs.Common.{◌≡◌, ℕ, [], ◌∷◌, codes, refl}
-use Rattle.hs_tree.specs.Value.{U32, Number, Overflow}
+use Rattle.hs_first_tree.specs.Value.{U32, Number, Overflow}
 use Rattle.hs_em.specs.Plain.{EmVar, Em, local, number, op, bind, no_ems, em, EmPar, EmDef, Module}
 use Rattle.hs_em.specs.Means.{value, panic, stuck, means}
 

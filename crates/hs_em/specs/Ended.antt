@@ -1,5 +1,5 @@
 -- What a call of a module ended with.
-use Rattle.hs_tree.specs.Value.{U32, Fits}
+use Rattle.hs_first_tree.specs.Value.{U32, Fits}
 use Rattle.hs_em.specs.Means.{Meaning, value, panic, stuck}
 
 -- a value of u32 or a panic

@@ -1,7 +1,7 @@
 -- What a module means where an environment holds the values of its locals.
 use Rattle.std.specs.Prelude.{List, [], ◌∷◌, Option, Some, None, option_map, cond}
-use Rattle.hs_tree.specs.Value.{Value, Number}
-use Rattle.hs_tree.specs.Operation.{applied}
+use Rattle.hs_first_tree.specs.Value.{Value, Number}
+use Rattle.hs_first_tree.specs.Operation.{applied}
 use Rattle.hs_em.specs.Plain.{EmVar, Em, local, number, op, bind, given, Ems, no_ems, em, EmPar, EmDef}
 use Rattle.hs_em.specs.Means.{Meaning, value, stuck, more, and_then, operated, same_var, of_type}
 

@@ -1,7 +1,7 @@
 -- What a module means: its definitions as functions on values, by substitution.
 use Rattle.std.specs.Prelude.{ℕ, zero, suc, max, ◌+◌, ◌^◌, List, [], ◌∷◌, Bool, ◌&&◌, cond, eqb, ltb, bytes_eq, Option, Some, None, slice_get, if◌then◌else◌}
-use Rattle.hs_tree.specs.Value.{ValType, U32, Value, Number, Panic}
-use Rattle.hs_tree.specs.Operation.{Applied, Is, Fails, Kind, applied}
+use Rattle.hs_first_tree.specs.Value.{ValType, U32, Value, Number, Panic}
+use Rattle.hs_first_tree.specs.Operation.{Applied, Is, Fails, Kind, applied}
 use Rattle.hs_em.specs.Plain.{EmVar, Em, local, number, op, bind, given, Ems, no_ems, em, EmPar, EmDef, Module}
 
 -- a value, a panic, or neither, and the number of turns

@@ -1,6 +1,6 @@
 -- The plain module that a module stands for.
 use Rattle.std.specs.Prelude.{List, [], ◌∷◌, map}
-use Rattle.hs_tree.specs.Value as value
+use Rattle.hs_first_tree.specs.Value as value
 use Rattle.hs_em.specs.Plain as plain
 use Rattle.hs_em.specs.declared.module.EmTy.{EmTy}
 use Rattle.hs_em.specs.declared.module.EmTy.TheVariants.{U32}

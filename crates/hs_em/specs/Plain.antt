@@ -1,6 +1,6 @@
 -- Emitted modules: trees in the manner of F*, the last form of a program.
 use Rattle.std.specs.Prelude.{ℕ, List}
-use Rattle.hs_tree.specs.Value.{ValType, Value}
+use Rattle.hs_first_tree.specs.Value.{ValType, Value}
 
 -- a local, by its name and its number; both are printed
 pub record EmVar : Type 0 where

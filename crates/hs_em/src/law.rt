@@ -1,7 +1,7 @@
 //! Laws of what modules mean. The functions here do nothing: a caller has their clauses.
 
 ghost use Rattle.std.specs.Prelude.{◌≡◌, ℕ, List, map, Some, slice_get};
-ghost use Rattle.hs_tree.specs.Value.{Value, FitsAll};
+ghost use Rattle.hs_first_tree.specs.Value.{Value, FitsAll};
 ghost use Rattle.hs_em.specs.Plain as em;
 ghost use Rattle.hs_em.specs.Scoped.{Scoped};
 ghost use Rattle.hs_em.specs.Spelled.{Spelled};

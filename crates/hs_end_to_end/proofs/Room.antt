@@ -1,6 +1,6 @@
 -- What can be written for given words and files.
 use Rattle.std.proofs.Common.{arith, ◌≡◌, inl, inr, ℕ, ◌+◌, ◌≤◌, List, [], length, Option, Some, None, sym, ap, subst, ◌∙◌}
-use Rattle.hs_tree.specs.Plain as tree
+use Rattle.hs_first_tree.specs.Plain as tree
 use Rattle.hs_front.specs.Told.{Accepted, Told}
 use Rattle.hs_base.specs.Heaps.{SureHeapState}
 use Rattle.hs_base.specs.Contents.{Entry, bytes_under}

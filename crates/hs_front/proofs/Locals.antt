@@ -1,8 +1,8 @@
 -- The parameters of a list of names, one more at a time.
 use Rattle.std.proofs.Common.{◌≡◌, ℕ, ◌+◌, ◌<◌, List, [], ◌∷◌, ◌++◌, length, drop, ap, sym, ◌∙◌, append_assoc}
 use Rattle.std.proofs.lemmas.List.{at_drop_more}
-use Rattle.hs_tree.specs.Value.{U32}
-use Rattle.hs_tree.specs.Plain.{Param}
+use Rattle.hs_first_tree.specs.Value.{U32}
+use Rattle.hs_first_tree.specs.Plain.{Param}
 use Rattle.hs_front.specs.declared.syntax.Span.{Span}
 use Rattle.hs_front.specs.Program.{params_from}
 

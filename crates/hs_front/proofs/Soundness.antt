@@ -6,13 +6,13 @@ use Rattle.std.proofs.lemmas.Map.Keys.{IsDistinct-cons}
 use Rattle.std.specs.List.{AllByRecursion, IsDistinct, list_any}
 use Rattle.hs_parser.specs.declared.stop.ParseStop.{ParseStop}
 use Rattle.hs_base.specs.declared.rule.Rule.TheVariants.{N3, N10}
-use Rattle.hs_tree.specs.Value.{U32}
-use Rattle.hs_tree.specs.Plain as tree
-use Rattle.hs_tree.specs.Of.{stmts_of}
+use Rattle.hs_first_tree.specs.Value.{U32}
+use Rattle.hs_first_tree.specs.Plain as tree
+use Rattle.hs_first_tree.specs.Of.{stmts_of}
 use Rattle.hs_base.specs.Names.{is_name}
-use Rattle.hs_tree.specs.Features.{Feature, src}
-use Rattle.hs_tree.specs.Count.{uses}
-use Rattle.hs_tree.specs.Sound.{ScopedExp, ScopedRhs, ScopedStmts, binds_stmts, TypedExp, TypedStmts, SoundFunction, Sound}
+use Rattle.hs_first_tree.specs.Features.{Feature, src}
+use Rattle.hs_first_tree.specs.Count.{uses}
+use Rattle.hs_first_tree.specs.Sound.{ScopedExp, ScopedRhs, ScopedStmts, binds_stmts, TypedExp, TypedStmts, SoundFunction, Sound}
 use Rattle.hs_front.specs.declared.syntax.Span.{Span}
 use Rattle.hs_front.specs.declared.syntax.Prim.{Prim}
 use Rattle.hs_front.specs.declared.syntax.Prim.TheVariants as prims

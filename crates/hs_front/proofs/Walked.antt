@@ -2,8 +2,8 @@
 use Rattle.std.proofs.Common.{◌≡◌, ◌⊎◌, inl, inr, ℕ, List, [], ◌∷◌, ◌++◌, length, Bool, true, false, cond, bytes_eq, Option, Some, None, refl, sym, ap, ◌∙◌, subst}
 use Rattle.std.specs.List.{list_any}
 use Rattle.hs_base.specs.declared.rule.Rule.TheVariants.{N3, N6, N10, T11}
-use Rattle.hs_tree.specs.Plain as tree
-use Rattle.hs_tree.specs.Of.{stmts_of}
+use Rattle.hs_first_tree.specs.Plain as tree
+use Rattle.hs_first_tree.specs.Of.{stmts_of}
 use Rattle.hs_front.specs.declared.syntax.Span.{Span}
 use Rattle.hs_front.specs.declared.syntax.Prim.{Prim}
 use Rattle.hs_front.specs.declared.syntax.Prim.TheVariants as prims

@@ -1,6 +1,6 @@
 -- Steps behind what was made so far.
 use Rattle.std.proofs.Common.{◌≡◌, List, [], ◌∷◌, ◌++◌, refl, sym, ap, append_assoc}
-use Rattle.hs_tree.specs.Plain as tree
+use Rattle.hs_first_tree.specs.Plain as tree
 use Rattle.hs_front.specs.Scope.{Scope}
 use Rattle.hs_front.specs.Walk.{Walk, Makes, Breaks, ◌>>=◌, with_scope}
 

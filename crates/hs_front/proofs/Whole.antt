@@ -5,7 +5,7 @@ use Rattle.hs_base.specs.declared.place.Stop.{Stop}
 use Rattle.hs_base.specs.declared.place.Stop.TheVariants as lexed
 use Rattle.hs_parser.specs.declared.stop.ParseStop.{ParseStop}
 use Rattle.hs_parser.specs.declared.stop.ParseStop.TheVariants as stop
-use Rattle.hs_tree.specs.Plain as tree
+use Rattle.hs_first_tree.specs.Plain as tree
 use Rattle.hs_grammar.specs.Derives.{DerivesAs}
 use Rattle.hs_grammar.specs.Break.{Breaks, CannotGoOn}
 use Rattle.hs_grammar.specs.Whole.{ParseBreak}

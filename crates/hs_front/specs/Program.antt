@@ -1,8 +1,8 @@
 -- The program of a file whose names are known.
 use Rattle.std.specs.Prelude.{ℕ, ◌+◌, List, [], ◌∷◌, ◌++◌, map, length, Bool, codes, Option, Some, None}
-use Rattle.hs_tree.specs.Value.{U32}
-use Rattle.hs_tree.specs.Plain as tree
-use Rattle.hs_tree.specs.Of.{stmts_of}
+use Rattle.hs_first_tree.specs.Value.{U32}
+use Rattle.hs_first_tree.specs.Plain as tree
+use Rattle.hs_first_tree.specs.Of.{stmts_of}
 use Rattle.hs_front.specs.declared.syntax.Span.{Span}
 use Rattle.hs_front.specs.declared.syntax.Prim.{Prim}
 use Rattle.hs_front.specs.declared.syntax.Prim.TheVariants as prims

@@ -3,7 +3,7 @@ use Rattle.std.specs.Prelude.{◌≡◌, ◌⊎◌, ℕ, List, [], length, slice
 use Rattle.hs_base.specs.declared.rule.Rule.TheVariants.{G8}
 use Rattle.hs_base.specs.declared.place.Broken.{Broken}
 use Rattle.hs_base.specs.Positions as positions
-use Rattle.hs_tree.specs.Plain as tree
+use Rattle.hs_first_tree.specs.Plain as tree
 use Rattle.hs_grammar.specs.Derives.{DerivesAs}
 use Rattle.hs_grammar.specs.Whole.{ParseBreak}
 use Rattle.hs_lexer.specs.declared.token.Token.{Token}

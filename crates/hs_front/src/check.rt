@@ -3,10 +3,10 @@
 ghost use Rattle.std.specs.Prelude.{◌≡◌, ◌≢◌, List, All, IfOk, length};
 ghost use Rattle.hs_base.specs.declared.place.Broken.{Broken};
 ghost use Rattle.hs_lexer.specs.Places.{Placed, IsNamed};
-ghost use Rattle.hs_tree.specs.Features.{src};
-ghost use Rattle.hs_tree.specs.Sound.{Sound};
-ghost use Rattle.hs_tree.specs.Of.{program_of};
-ghost use Rattle.hs_tree.specs.Plain as tree;
+ghost use Rattle.hs_first_tree.specs.Features.{src};
+ghost use Rattle.hs_first_tree.specs.Sound.{Sound};
+ghost use Rattle.hs_first_tree.specs.Of.{program_of};
+ghost use Rattle.hs_first_tree.specs.Plain as tree;
 ghost use Rattle.hs_forms.specs.Tokens.{tokens_of};
 ghost use Rattle.hs_parser.specs.Told.{NestsTooDeep};
 ghost use Rattle.hs_front.specs.Told.{Accepted, AcceptedBehind, AcceptedTokens, Told, ToldBehind, ToldTokens, NestsTooDeepIn, break_at};
@@ -18,12 +18,12 @@ use crate::stages::{look_over, stages_exclude};
 use crate::symbol::symbols;
 use hs_base::place::Broken;
 use hs_base::rule::Rule;
+use hs_first_tree::features::Src;
+use hs_first_tree::program::Program;
 use hs_grammar::error::Refusal;
 use hs_grammar::grammar::exact;
 use hs_lexer::{Token, Tokens, lex};
 use hs_parser::{ParseStop, parse, unambiguous};
-use hs_tree::features::Src;
-use hs_tree::program::Program;
 use std::alloc::Global;
 
 /// That the token of this number is the first that cannot stand where it stands, or that the tokens end too early.

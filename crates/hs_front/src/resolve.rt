@@ -2,9 +2,9 @@
 
 ghost use Rattle.std.specs.Prelude.{◌≡◌, [], ◌++◌, map, true, false, IfOk, OnOk, bytes_eq};
 ghost use Rattle.std.specs.List.{list_any};
-ghost use Rattle.hs_tree.specs.Of.{exp_of, stmt_of, block_of, param_of, program_of};
-ghost use Rattle.hs_tree.specs.Features.{Feature, src};
-ghost use Rattle.hs_tree.specs.Count.{uses};
+ghost use Rattle.hs_first_tree.specs.Of.{exp_of, stmt_of, block_of, param_of, program_of};
+ghost use Rattle.hs_first_tree.specs.Features.{Feature, src};
+ghost use Rattle.hs_first_tree.specs.Count.{uses};
 ghost use Rattle.hs_front.specs.Scope.{text_at, found};
 ghost use Rattle.hs_front.specs.Marks.{mark, with_params};
 ghost use Rattle.hs_front.specs.Program.{added, params_from, names_bound, around};
@@ -19,11 +19,11 @@ use hs_base::name::Name;
 use hs_base::parts::between;
 use hs_base::place::Broken;
 use hs_base::rule::Rule;
+use hs_first_tree::features::{On, Src};
+use hs_first_tree::law::absent_features_are_unused;
+use hs_first_tree::node::{Block, Exp, Rhs, Stmt};
+use hs_first_tree::program::{Body, Function, Parameter, Program, ValType};
 use hs_parser::ParseStop;
-use hs_tree::features::{On, Src};
-use hs_tree::law::absent_features_are_unused;
-use hs_tree::node::{Block, Exp, Rhs, Stmt};
-use hs_tree::program::{Body, Function, Parameter, Program, ValType};
 use sqlite_items::Items;
 use std::alloc::Global;
 

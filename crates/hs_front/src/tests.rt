@@ -4,9 +4,9 @@ use crate::check::check;
 use hs_base::parts::between;
 use hs_base::place::{Broken, Pos};
 use hs_base::rule::Rule;
+use hs_first_tree::node::{Exp, Rhs, Stmt};
 use hs_lexer::{Token, lex};
 use hs_parser::ParseStop;
-use hs_tree::node::{Exp, Rhs, Stmt};
 use std::alloc::{AllocError, Global};
 use std::test::Fail;
 

@@ -3,7 +3,7 @@ use Rattle.std.proofs.Common.{◌≡◌, ℕ, List, [], ◌∷◌, ◌++◌, fla
 use Rattle.std.specs.Prelude.{bytes_eq}
 use Rattle.std.proofs.lemmas.Bool.{true≢false, and_parts}
 use Rattle.std.proofs.lemmas.Fmt.{decimal_injective}
-use Rattle.hs_tree.specs.Value.{ValType, U32}
+use Rattle.hs_first_tree.specs.Value.{ValType, U32}
 use Rattle.hs_base.specs.Names.{is_digit}
 use Rattle.std.specs.List.{list_all}
 use Rattle.hs_em.specs.Plain.{EmVar, Em, local, number, op, bind, given, Ems, no_ems, em, EmPar, EmDef, Module}

@@ -4,7 +4,7 @@ use Rattle.std.specs.Prelude.{bytes_eq}
 use Rattle.std.proofs.lemmas.Bool.{true≢false, eqb-true, and_parts, and_from, or_right, false_from_ne_true}
 use Rattle.std.proofs.lemmas.Bool.Decides.{nat_tests}
 use Rattle.std.proofs.lemmas.Fmt.{decimal_by_steps, decimal_nonempty}
-use Rattle.hs_tree.specs.Value.{ValType, U32}
+use Rattle.hs_first_tree.specs.Value.{ValType, U32}
 use Rattle.hs_base.specs.Names.{is_upper, is_letter, is_digit, begins_name, is_word_byte, is_reserved, is_name}
 use Rattle.hs_fstar.specs.Bytes.{begins_word}
 use Rattle.std.specs.List.{list_all}

@@ -1,12 +1,12 @@
 -- What a program keeps without assignments: its headers, loops and calls, and that it is sound.
 use Rattle.std.proofs.Common.{◌≡◌, ℕ, List, [], ◌∷◌, map, Bool, true, false, ◌||◌, eqb, bytes_eq, length, refl, sym, ap, ap₂, subst, arith, true≢false}
 use Rattle.std.specs.List.{AllByRecursion, IsDistinct, list_any}
-use Rattle.hs_tree.specs.Value.{ValType}
-use Rattle.hs_tree.specs.Plain.{Exp, var, lit, op, Exps, no_exps, exp, Rhs, plain, bind, set, Stmts, no_stmts, stmt, Block, ends, Function}
-use Rattle.hs_tree.specs.Features.{Feature, no_exit, no_assign}
-use Rattle.hs_tree.specs.Count.{Weights, looping, calling, total_stmts, total_block, uses, loops, calls}
-use Rattle.hs_tree.specs.Call.{header_of}
-use Rattle.hs_tree.specs.Sound.{ScopedExp, ScopedExps, ScopedRhs, ScopedStmts, ScopedBlock, TypedStmts, TypedBlock, SoundFunction, Sound}
+use Rattle.hs_first_tree.specs.Value.{ValType}
+use Rattle.hs_first_tree.specs.Plain.{Exp, var, lit, op, Exps, no_exps, exp, Rhs, plain, bind, set, Stmts, no_stmts, stmt, Block, ends, Function}
+use Rattle.hs_first_tree.specs.Features.{Feature, no_exit, no_assign}
+use Rattle.hs_first_tree.specs.Count.{Weights, looping, calling, total_stmts, total_block, uses, loops, calls}
+use Rattle.hs_first_tree.specs.Call.{header_of}
+use Rattle.hs_first_tree.specs.Sound.{ScopedExp, ScopedExps, ScopedRhs, ScopedStmts, ScopedBlock, TypedStmts, TypedBlock, SoundFunction, Sound}
 use Rattle.hs_p_mutation.specs.Without.{stmts_without, block_without, function_without, program_without}
 
 pub headers_kept : (p : List Function) → map header_of (program_without p) ≡ map header_of p

@@ -1,9 +1,9 @@
 -- A call gives the same without assignments.
 use Rattle.std.proofs.Common.{◌≡◌, ℕ, zero, suc, ◌+◌, List, [], ◌∷◌, Option, Some, None, refl, sym, ◌∙◌, arith}
-use Rattle.hs_tree.specs.Value.{Value}
-use Rattle.hs_tree.specs.Plain.{Stmts, no_stmts, stmt, bind, set, Block, ends, Function}
-use Rattle.hs_tree.specs.Store.{Slot, Has, Store, put, Gives, Exits, Panics}
-use Rattle.hs_tree.specs.Compute.{Out, Stuck, Ran, Process, more, follow, unbound, run_rhs, run_stmts, run_block, entered, result_of, ended, answer_at, run_call}
+use Rattle.hs_first_tree.specs.Value.{Value}
+use Rattle.hs_first_tree.specs.Plain.{Stmts, no_stmts, stmt, bind, set, Block, ends, Function}
+use Rattle.hs_first_tree.specs.Store.{Slot, Has, Store, put, Gives, Exits, Panics}
+use Rattle.hs_first_tree.specs.Compute.{Out, Stuck, Ran, Process, more, follow, unbound, run_rhs, run_stmts, run_block, entered, result_of, ended, answer_at, run_call}
 use Rattle.hs_p_mutation.specs.Without.{stmts_without, block_without, program_without}
 
 -- a store after a run is not seen by the call

@@ -2,10 +2,10 @@
 use Rattle.std.proofs.Common.{◌≡◌, false, refl, arith, true≢false}
 use Rattle.std.specs.List.{IsDistinct}
 use Rattle.hs_base.specs.Names.{is_upper, is_letter, is_digit, begins_name, is_word_byte, is_reserved, is_name}
-use Rattle.hs_tree.specs.Value.{U32}
-use Rattle.hs_tree.specs.Features.{Feature, Place, Nested, Quest, MutArg, Exit, Assign, Loop, Cf, Acc, Fold, no_exit}
-use Rattle.hs_tree.specs.Count.{uses}
-use Rattle.hs_tree.specs.Sound.{Sound}
+use Rattle.hs_first_tree.specs.Value.{U32}
+use Rattle.hs_first_tree.specs.Features.{Feature, Place, Nested, Quest, MutArg, Exit, Assign, Loop, Cf, Acc, Fold, no_exit}
+use Rattle.hs_first_tree.specs.Count.{uses}
+use Rattle.hs_first_tree.specs.Sound.{Sound}
 use Rattle.hs_p_mutation.specs.Sample.{two}
 
 two_absent : (f : Feature) → no_exit f ≡ false → uses f two ≡ 0

@@ -1,7 +1,7 @@
 -- A small program.
 use Rattle.std.specs.Prelude.{List, [], ◌∷◌, codes}
-use Rattle.hs_tree.specs.Value.{U32}
-use Rattle.hs_tree.specs.Plain.{var, lit, plain, bind, set, no_stmts, stmt, ends, Function}
+use Rattle.hs_first_tree.specs.Value.{U32}
+use Rattle.hs_first_tree.specs.Plain.{var, lit, plain, bind, set, no_stmts, stmt, ends, Function}
 
 -- fn two() -> u32 { let mut x: u32 = 1; x = 2; x }
 abbrev pub two : List Function

@@ -1,6 +1,6 @@
 -- Programs without assignments: each assignment is a binding of its local, which lasts to the end of its block.
 use Rattle.std.specs.Prelude.{List, map}
-use Rattle.hs_tree.specs.Plain.{Stmt, bind, set, Stmts, no_stmts, stmt, Block, ends, Function}
+use Rattle.hs_first_tree.specs.Plain.{Stmt, bind, set, Stmts, no_stmts, stmt, Block, ends, Function}
 
 -- a statement
 abbrev pub stmt_without : Stmt → Stmt

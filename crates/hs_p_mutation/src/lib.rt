@@ -2,19 +2,19 @@
 #![tactic(auto)]
 
 ghost use Rattle.std.specs.Prelude.{◌≡◌, ℕ, List, map, IfOk};
-ghost use Rattle.hs_tree.specs.Of.{exp_of, rhs_of, stmt_of, block_of, function_of, program_of};
-ghost use Rattle.hs_tree.specs.Features.{Assign, no_exit, no_assign};
-ghost use Rattle.hs_tree.specs.Count.{uses, loops, calls};
-ghost use Rattle.hs_tree.specs.Sound.{Sound};
-ghost use Rattle.hs_tree.specs.Call.{SameResults, header_of};
+ghost use Rattle.hs_first_tree.specs.Of.{exp_of, rhs_of, stmt_of, block_of, function_of, program_of};
+ghost use Rattle.hs_first_tree.specs.Features.{Assign, no_exit, no_assign};
+ghost use Rattle.hs_first_tree.specs.Count.{uses, loops, calls};
+ghost use Rattle.hs_first_tree.specs.Sound.{Sound};
+ghost use Rattle.hs_first_tree.specs.Call.{SameResults, header_of};
 ghost use Rattle.hs_p_mutation.specs.Without.{stmt_without, block_without, function_without, program_without};
 
 use hs_base::memory::NoMemory;
-use hs_tree::copy::{copy_names, copy_parameters};
-use hs_tree::features::{NoAssign, NoExit};
-use hs_tree::law::{absent_features_are_unused, calls_are_computed};
-use hs_tree::node::{Block, Exp, Rhs, Stmt};
-use hs_tree::program::{Body, Function, Program};
+use hs_first_tree::copy::{copy_names, copy_parameters};
+use hs_first_tree::features::{NoAssign, NoExit};
+use hs_first_tree::law::{absent_features_are_unused, calls_are_computed};
+use hs_first_tree::node::{Block, Exp, Rhs, Stmt};
+use hs_first_tree::program::{Body, Function, Program};
 use sqlite_items::Items;
 use std::alloc::Global;
 

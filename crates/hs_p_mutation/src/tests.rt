@@ -1,13 +1,13 @@
 //! The phase on a small program.
 
 ghost use Rattle.std.specs.Prelude.{◌≡◌, IfOk};
-ghost use Rattle.hs_tree.specs.Of.{program_of};
+ghost use Rattle.hs_first_tree.specs.Of.{program_of};
 ghost use Rattle.hs_p_mutation.specs.Sample.{two};
 
 use super::*;
 use hs_base::name::Name;
-use hs_tree::features::On;
-use hs_tree::program::ValType;
+use hs_first_tree::features::On;
+use hs_first_tree::program::ValType;
 
 /// `fn two() -> u32 { let mut x: u32 = 1; x = 2; x }`
 fn build_two(alloc: Global) -> Result<Program<NoExit>, NoMemory>

@@ -4,11 +4,11 @@ use Rattle.std.proofs.lemmas.Bool.{eqb-true, eq-eqb}
 use Rattle.std.proofs.lemmas.Slice.Eq.{bytes_eq-Decides}
 use Rattle.std.proofs.lemmas.Map.Keys.{IsDistinct-head, IsDistinct-tail}
 use Rattle.std.specs.List.{AllByRecursion, IsDistinct, list_any}
-use Rattle.hs_tree.specs.Value.{ValType, U32}
-use Rattle.hs_tree.specs.Operation.{row_types}
-use Rattle.hs_tree.specs.Plain as tree
+use Rattle.hs_first_tree.specs.Value.{ValType, U32}
+use Rattle.hs_first_tree.specs.Operation.{row_types}
+use Rattle.hs_first_tree.specs.Plain as tree
 use Rattle.hs_base.specs.Names.{is_name}
-use Rattle.hs_tree.specs.Sound.{ScopedExp, ScopedExps, ScopedRhs, ScopedStmts, ScopedBlock, TypedExp, TypedExps, TypedRhs, TypedStmts, TypedBlock, SoundFunction}
+use Rattle.hs_first_tree.specs.Sound.{ScopedExp, ScopedExps, ScopedRhs, ScopedStmts, ScopedBlock, TypedExp, TypedExps, TypedRhs, TypedStmts, TypedBlock, SoundFunction}
 use Rattle.hs_em.specs.Plain.{EmVar, Em, local, number, op, bind, given, Ems, no_ems, em, EmPar, EmDef}
 use Rattle.hs_em.specs.Spelled.{is_module_name, is_let, SpelledVar, SpelledEm, SpelledEms, SpelledPars, SpelledDefs, Spelled}
 use Rattle.hs_em.specs.Means.{same_var}

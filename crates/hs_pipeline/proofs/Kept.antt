@@ -2,13 +2,13 @@
 use Rattle.std.proofs.Common.{◌≡◌, ◌↔◌, ℕ, List, [], ◌∷◌, map, true, Option, Some, None, option_map, slice_get, refl, sym, ap, ◌∙◌, subst}
 use Rattle.std.proofs.lemmas.Option.{slice_get-map}
 use Rattle.std.specs.List.{AllByRecursion}
-use Rattle.hs_tree.specs.Value.{Value, FitsAll}
-use Rattle.hs_tree.specs.Plain as tree
-use Rattle.hs_tree.specs.Features.{no_assign}
-use Rattle.hs_tree.specs.Sound.{Sound}
-use Rattle.hs_tree.specs.Call as call
-use Rattle.hs_tree.specs.Call.{Calls, SameResults, Header, header_of}
-use Rattle.hs_tree.specs.Compute.{run_call, Ended}
+use Rattle.hs_first_tree.specs.Value.{Value, FitsAll}
+use Rattle.hs_first_tree.specs.Plain as tree
+use Rattle.hs_first_tree.specs.Features.{no_assign}
+use Rattle.hs_first_tree.specs.Sound.{Sound}
+use Rattle.hs_first_tree.specs.Call as call
+use Rattle.hs_first_tree.specs.Call.{Calls, SameResults, Header, header_of}
+use Rattle.hs_first_tree.specs.Compute.{run_call, Ended}
 use Rattle.hs_em.specs.Plain.{EmDef, EmPar, Module}
 use Rattle.hs_em.specs.Spelled.{is_module_name, Spelled}
 use Rattle.hs_em.specs.Scoped.{Scoped}

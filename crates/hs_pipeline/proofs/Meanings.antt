@@ -3,14 +3,14 @@ use Rattle.std.proofs.Common.{◌≡◌, ◌≢◌, ◌↔◌, ℕ, ◌+◌, Lis
 use Rattle.std.proofs.lemmas.Bool.{eqb-true, eq-eqb}
 use Rattle.std.proofs.lemmas.Slice.Eq.{bytes_eq-Decides}
 use Rattle.std.proofs.lemmas.Option.{slice_get-map}
-use Rattle.hs_tree.specs.Value.{ValType, Value}
-use Rattle.hs_tree.specs.Operation.{Applied, Is, Fails, Kind, applied}
-use Rattle.hs_tree.specs.Plain as tree
-use Rattle.hs_tree.specs.Store.{Slot, Empty, Moved, Has, Store, put, Gives, Exits, Panics}
-use Rattle.hs_tree.specs.Call as call
-use Rattle.hs_tree.specs.Call.{Calls}
-use Rattle.hs_tree.specs.Compute as compute
-use Rattle.hs_tree.specs.Compute.{Out, Stuck, Ran, Process, follow, next, read, apply, run_exp, run_exps, run_rhs, run_stmt, run_stmts, run_block, Answer, NoCall, Ended, ended, result_of, answer_at, run_function, run_found, run_call}
+use Rattle.hs_first_tree.specs.Value.{ValType, Value}
+use Rattle.hs_first_tree.specs.Operation.{Applied, Is, Fails, Kind, applied}
+use Rattle.hs_first_tree.specs.Plain as tree
+use Rattle.hs_first_tree.specs.Store.{Slot, Empty, Moved, Has, Store, put, Gives, Exits, Panics}
+use Rattle.hs_first_tree.specs.Call as call
+use Rattle.hs_first_tree.specs.Call.{Calls}
+use Rattle.hs_first_tree.specs.Compute as compute
+use Rattle.hs_first_tree.specs.Compute.{Out, Stuck, Ran, Process, follow, next, read, apply, run_exp, run_exps, run_rhs, run_stmt, run_stmts, run_block, Answer, NoCall, Ended, ended, result_of, answer_at, run_function, run_found, run_call}
 use Rattle.hs_em.specs.Means.{Meaning, value, panic, stuck, more, and_then, operated, same_var, fits, of_type, means}
 use Rattle.hs_pipeline.specs.Lower.{lowered_var, lowered_exp, lowered_exps, lowered_rhs, lowered_stmts, lowered_block, lowered_param, lowered_function, lowered}
 use Rattle.hs_em.specs.Ended as Ends

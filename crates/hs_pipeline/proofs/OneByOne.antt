@@ -1,7 +1,7 @@
 -- The operands and the statements of a block, one by one.
 use Rattle.std.proofs.Common.{◌≡◌, ℕ, List, [], ◌∷◌, ◌++◌, map, refl, ap}
-use Rattle.hs_tree.specs.Plain as tree
-use Rattle.hs_tree.specs.Of.{exps_of, stmts_of}
+use Rattle.hs_first_tree.specs.Plain as tree
+use Rattle.hs_first_tree.specs.Of.{exps_of, stmts_of}
 use Rattle.hs_em.specs.Plain.{Em, em}
 use Rattle.hs_em.specs.Of.{ems_of}
 use Rattle.hs_pipeline.specs.Lower.{lowered_exp, lowered_exps, lowered_stmt, lowered_stmts}

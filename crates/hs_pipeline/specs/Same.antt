@@ -1,9 +1,9 @@
 -- What a module keeps of its program: results, turns, names, headers and counts.
 use Rattle.std.specs.Prelude.{◌≡◌, ◌↔◌, ℕ, List, [], ◌∷◌, map, Some, slice_get}
-use Rattle.hs_tree.specs.Value.{ValType, Value, Panic, FitsAll}
-use Rattle.hs_tree.specs.Plain as tree
-use Rattle.hs_tree.specs.Call as call
-use Rattle.hs_tree.specs.Call.{Calls}
+use Rattle.hs_first_tree.specs.Value.{ValType, Value, Panic, FitsAll}
+use Rattle.hs_first_tree.specs.Plain as tree
+use Rattle.hs_first_tree.specs.Call as call
+use Rattle.hs_first_tree.specs.Call.{Calls}
 use Rattle.hs_em.specs.Plain.{EmPar, EmDef, Module}
 use Rattle.hs_em.specs.Means.{value, panic, means}
 

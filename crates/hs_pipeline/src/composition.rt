@@ -1,9 +1,9 @@
 //! The module of a source's program.
 
 ghost use Rattle.std.specs.Prelude.{◌≡◌, true, IfOk};
-ghost use Rattle.hs_tree.specs.Of.{program_of};
-ghost use Rattle.hs_tree.specs.Features.{src};
-ghost use Rattle.hs_tree.specs.Sound.{Sound};
+ghost use Rattle.hs_first_tree.specs.Of.{program_of};
+ghost use Rattle.hs_first_tree.specs.Features.{src};
+ghost use Rattle.hs_first_tree.specs.Sound.{Sound};
 ghost use Rattle.hs_em.specs.Of.{module_of};
 ghost use Rattle.hs_em.specs.Spelled.{is_module_name, Spelled};
 ghost use Rattle.hs_em.specs.Scoped.{Scoped};
@@ -14,10 +14,10 @@ use crate::lower::{locals_are_numbered, lower};
 use hs_base::memory::NoMemory;
 use hs_em::law::{environments_serve, scoped_modules_end};
 use hs_em::module::Module;
+use hs_first_tree::features::Src;
+use hs_first_tree::law::{absent_features_are_unused, calls_are_computed};
+use hs_first_tree::program::Program;
 use hs_p_mutation::drop_assigns;
-use hs_tree::features::Src;
-use hs_tree::law::{absent_features_are_unused, calls_are_computed};
-use hs_tree::program::Program;
 use std::alloc::Global;
 
 /// The module of this name for a program of the source.

@@ -1,13 +1,13 @@
 //! The nodes of a source's program as those of a program without exits: this language has no exit.
 
 ghost use Rattle.std.specs.Prelude.{◌≡◌, map, IfOk};
-ghost use Rattle.hs_tree.specs.Of.{exp_of, rhs_of, stmt_of, block_of, function_of, program_of};
+ghost use Rattle.hs_first_tree.specs.Of.{exp_of, rhs_of, stmt_of, block_of, function_of, program_of};
 
 use hs_base::memory::NoMemory;
-use hs_tree::copy::{copy_names, copy_parameters};
-use hs_tree::features::{NoExit, On, Src};
-use hs_tree::node::{Block, Exp, Rhs, Stmt};
-use hs_tree::program::{Body, Function, Program};
+use hs_first_tree::copy::{copy_names, copy_parameters};
+use hs_first_tree::features::{NoExit, On, Src};
+use hs_first_tree::node::{Block, Exp, Rhs, Stmt};
+use hs_first_tree::program::{Body, Function, Program};
 use sqlite_items::Items;
 use std::alloc::Global;
 

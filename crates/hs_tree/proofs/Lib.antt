@@ -1,3 +1,9 @@
-pub mod Bridge
-pub mod Unused
+mod Applied
+mod Bridge
+mod Frame
+mod Fresh
+mod Laws
+mod Programs
 mod Rows
+mod Texts
+mod Unused

@@ -1,7 +1,6 @@
-//! Trees of programs, and what their runs mean.
+//! The whole tree: its nodes, what their runs mean, and which trees are sound.
 #![tactic(auto)]
 
-pub mod copy;
 pub mod features;
 pub mod law;
 pub mod node;

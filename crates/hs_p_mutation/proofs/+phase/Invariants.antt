@@ -1,5 +1,5 @@
 use Rattle.std.proofs.Common.{◌≡◌, map, take}
-use Rattle.hs_tree.specs.Of.{exp_of}
+use Rattle.hs_first_tree.specs.Of.{exp_of}
 use Rattle.hs_p_mutation.proofs.+phase.Given as goal
 
 abbrev pub invariant-convert_exps-loop-exp : goal.invariant-convert_exps-loop-exp

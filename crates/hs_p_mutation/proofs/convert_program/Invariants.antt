@@ -1,5 +1,5 @@
 use Rattle.std.proofs.Common.{◌≡◌, map, take}
-use Rattle.hs_tree.specs.Of.{function_of}
+use Rattle.hs_first_tree.specs.Of.{function_of}
 use Rattle.hs_p_mutation.specs.Without.{function_without}
 use Rattle.hs_p_mutation.proofs.convert_program.Given as goal
 

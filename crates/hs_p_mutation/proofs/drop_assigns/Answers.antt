@@ -1,10 +1,10 @@
 use Rattle.std.proofs.Common.{map, sym, ap, ◌∙◌, subst}
-use Rattle.hs_tree.specs.Of.{program_of}
-use Rattle.hs_tree.specs.Features.{no_assign}
-use Rattle.hs_tree.specs.Count.{uses, loops, calls}
-use Rattle.hs_tree.specs.Sound.{Sound}
-use Rattle.hs_tree.specs.Call.{header_of}
-use Rattle.hs_tree.specs.Compute.{run_call}
+use Rattle.hs_first_tree.specs.Of.{program_of}
+use Rattle.hs_first_tree.specs.Features.{no_assign}
+use Rattle.hs_first_tree.specs.Count.{uses, loops, calls}
+use Rattle.hs_first_tree.specs.Sound.{Sound}
+use Rattle.hs_first_tree.specs.Call.{header_of}
+use Rattle.hs_first_tree.specs.Compute.{run_call}
 use Rattle.hs_p_mutation.proofs.Kept.{headers_kept, loops_kept, calls_kept, sound_kept}
 use Rattle.hs_p_mutation.proofs.Runs.{call_same}
 use Rattle.hs_p_mutation.proofs.drop_assigns.Goals as goal

@@ -1,5 +1,5 @@
 use Rattle.std.proofs.Common.{inl}
-use Rattle.hs_tree.specs.Of.{program_of}
+use Rattle.hs_first_tree.specs.Of.{program_of}
 use Rattle.hs_cli.specs.Command.{Print}
 use Rattle.hs_cli.specs.Written.{written_of}
 use Rattle.hs_cli.proofs.Outputs.{IfOk-map, stop_output}

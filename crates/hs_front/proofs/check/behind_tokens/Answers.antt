@@ -1,6 +1,6 @@
 use Rattle.std.proofs.Common.{IfOk, sym, subst}
 use Rattle.std.proofs.lemmas.Result.{err_from_is_err_and}
-use Rattle.hs_tree.specs.Of.{program_of}
+use Rattle.hs_first_tree.specs.Of.{program_of}
 use Rattle.hs_front.specs.Answers.{OnBreak}
 use Rattle.hs_front.specs.Told.{AcceptedBehind, ToldBehind}
 use Rattle.hs_front.proofs.Whole.{whole_accepted, whole_told, none_only_break, kept_only_break, broken_told, broken_only, broken_only_break}

@@ -1,5 +1,5 @@
 use Rattle.std.proofs.Common.{All, sym, subst}
-use Rattle.hs_tree.specs.Of.{program_of}
+use Rattle.hs_first_tree.specs.Of.{program_of}
 use Rattle.hs_lexer.specs.Lexes.{Lexes}
 use Rattle.hs_lexer.specs.Places.{IsNamed}
 use Rattle.hs_front.specs.Written.{AFile}

@@ -1,5 +1,5 @@
 use Rattle.std.proofs.Common.{◌≡◌, Err, sym, ◌∙◌, ap, subst}
-use Rattle.hs_tree.specs.Of.{program_of}
+use Rattle.hs_first_tree.specs.Of.{program_of}
 use Rattle.hs_grammar.specs.Derives.{DerivesAs}
 use Rattle.hs_grammar.specs.Whole.{ParseBreak, Parses}
 use Rattle.hs_front.specs.Symbols.{symbols_of}

@@ -1,6 +1,6 @@
 use Rattle.std.proofs.Common.{map, sym, ◌∙◌, arith}
 use Rattle.std.proofs.lemmas.List.{map-append}
-use Rattle.hs_tree.specs.Of.{param_of}
+use Rattle.hs_first_tree.specs.Of.{param_of}
 use Rattle.hs_front.proofs.Locals.{params_more}
 use Rattle.hs_front.proofs.resolve.parameters.Goals as goal
 

@@ -1,5 +1,5 @@
 use Rattle.std.proofs.Common.{◌≡◌, ◌++◌, map, drop}
-use Rattle.hs_tree.specs.Of.{param_of}
+use Rattle.hs_first_tree.specs.Of.{param_of}
 use Rattle.hs_front.specs.Program.{params_from}
 use Rattle.hs_front.proofs.resolve.parameters.Given as goal
 

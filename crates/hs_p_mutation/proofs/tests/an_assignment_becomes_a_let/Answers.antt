@@ -1,6 +1,6 @@
 use Rattle.std.proofs.Common.{sym, subst}
-use Rattle.hs_tree.specs.Features.{no_exit}
-use Rattle.hs_tree.specs.Sound.{Sound}
+use Rattle.hs_first_tree.specs.Features.{no_exit}
+use Rattle.hs_first_tree.specs.Sound.{Sound}
 use Rattle.hs_p_mutation.proofs.Sample.{two_sound}
 use Rattle.hs_p_mutation.proofs.tests.an_assignment_becomes_a_let.Goals as goal
 

@@ -1,5 +1,5 @@
 use Rattle.std.proofs.Common.{◌≡◌, map, take}
-use Rattle.hs_tree.specs.Of.{exp_of}
+use Rattle.hs_first_tree.specs.Of.{exp_of}
 use Rattle.hs_pipeline.proofs.copy.+copy.Given as goal
 
 -- what is made is what the operands so far are

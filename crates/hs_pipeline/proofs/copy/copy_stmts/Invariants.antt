@@ -1,5 +1,5 @@
 use Rattle.std.proofs.Common.{◌≡◌, map, take}
-use Rattle.hs_tree.specs.Of.{stmt_of}
+use Rattle.hs_first_tree.specs.Of.{stmt_of}
 use Rattle.hs_pipeline.proofs.copy.copy_stmts.Given as goal
 
 -- what is made is what the statements so far are

@@ -1,7 +1,7 @@
 use Rattle.std.proofs.Common.{rules, ◌≡◌, sym, ap, ◌∙◌, map}
-use Rattle.hs_tree.specs.Plain as tree
-use Rattle.hs_tree.specs.declared.node.Exp as node
-use Rattle.hs_tree.specs.Of.{exps_of, exp_of}
+use Rattle.hs_first_tree.specs.Plain as tree
+use Rattle.hs_first_tree.specs.declared.node.Exp as node
+use Rattle.hs_first_tree.specs.Of.{exps_of, exp_of}
 use Rattle.hs_em.specs.Of.{ems_of, em_of}
 use Rattle.hs_em.specs.Plain as em
 use Rattle.hs_em.specs.declared.module.Em.{the_lemmas}

@@ -1,6 +1,6 @@
 use Rattle.std.proofs.Common.{map, take}
 use Rattle.std.specs.List.{AllByRecursion}
-use Rattle.hs_tree.specs.Of.{function_of}
+use Rattle.hs_first_tree.specs.Of.{function_of}
 use Rattle.hs_pipeline.specs.Counted.{Numbered}
 use Rattle.hs_pipeline.proofs.lower.locals_are_numbered.Given as goal
 

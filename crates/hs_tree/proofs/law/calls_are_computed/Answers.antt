@@ -1,5 +1,5 @@
-use Rattle.hs_tree.proofs.Bridge.{same_call}
+use Rattle.hs_tree.proofs.Programs.{same_results}
 use Rattle.hs_tree.proofs.law.calls_are_computed.Goals as goal
 
 pub returns : goal.returns
-returns c = same_call
+returns c = same_results

@@ -1,5 +1,5 @@
 use Rattle.std.proofs.Common.{◌≡◌, map, drop}
-use Rattle.hs_tree.specs.Of.{stmt_of}
+use Rattle.hs_first_tree.specs.Of.{stmt_of}
 use Rattle.hs_front.specs.Walk.{stmts_walk}
 use Rattle.hs_front.proofs.Walks.{behind}
 use Rattle.hs_front.proofs.resolve.Resolver.statements.Given as goal

@@ -1,5 +1,5 @@
 use Rattle.std.proofs.Common.{◌≡◌, drop}
-use Rattle.hs_tree.specs.Of.{exp_of}
+use Rattle.hs_first_tree.specs.Of.{exp_of}
 use Rattle.hs_front.specs.Walk.{parts_walk, sum_walk}
 use Rattle.hs_front.proofs.resolve.Resolver.sum.Given as goal
 

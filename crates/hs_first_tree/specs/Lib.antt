@@ -1,0 +1,11 @@
+pub mod Value
+pub mod Operation
+pub mod Plain
+pub mod Of
+pub mod Features
+pub mod Count
+pub mod Sound
+pub mod Store
+pub mod Run
+pub mod Call
+pub mod Compute

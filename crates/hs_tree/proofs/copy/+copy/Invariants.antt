@@ -1,5 +1,0 @@
-use Rattle.std.proofs.Common.{◌≡◌, take}
-use Rattle.hs_tree.proofs.copy.+copy.Given as goal
-
-abbrev pub invariant-copy_exps-loop-exp : goal.invariant-copy_exps-loop-exp
-invariant-copy_exps-loop-exp g l = l.copies ≡ take l.exp-index l.exp-items

@@ -1,9 +1,0 @@
-mod Applied
-mod Bridge
-mod Frame
-mod Fresh
-mod Laws
-mod Programs
-mod Rows
-mod Texts
-mod Unused

@@ -1,5 +1,0 @@
-use Rattle.hs_tree_next.proofs.Programs.{same_results}
-use Rattle.hs_tree_next.proofs.law.calls_are_computed.Goals as goal
-
-pub returns : goal.returns
-returns c = same_results

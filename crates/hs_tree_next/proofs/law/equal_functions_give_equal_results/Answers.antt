@@ -1,5 +1,0 @@
-use Rattle.hs_tree_next.proofs.Laws.{same_by_functions}
-use Rattle.hs_tree_next.proofs.law.equal_functions_give_equal_results.Goals as goal
-
-pub returns : goal.returns
-returns c = same_by_functions

@@ -1,5 +1,0 @@
-use Rattle.hs_tree_next.proofs.Fresh.{fresh_block}
-use Rattle.hs_tree_next.proofs.law.fresh_locals_change_nothing.Goals as goal
-
-pub returns : goal.returns
-returns c = fresh_block
