@@ -78,11 +78,14 @@ fn print_type(rt: &impl Print, ty: &ValType) -> io::Result<()> {
 
 #[cycle(print)]
 fn print_types(rt: &impl Print, types: &[ValType]) -> io::Result<()> {
-    let mut before = "(";
+    print!(rt; "(")?;
+    let mut is_first = true;
     for ty in types {
-        print!(rt; "{before}")?;
+        if !is_first {
+            print!(rt; ",")?;
+        }
         print_type(rt, ty)?;
-        before = ",";
+        is_first = false;
     }
     print!(rt; ")")
 }
@@ -109,14 +112,16 @@ fn print_entry(rt: &impl Print, entry: &TypeDef) -> io::Result<()> {
             print!(rt; ";{length}] ")
         }
         TypeKind::Ctors(ctors) => {
-            let mut before = "";
+            let mut is_first = true;
             for (name, parts) in ctors.as_slice() {
-                print!(rt; "{before}")?;
+                if !is_first {
+                    print!(rt; "|")?;
+                }
                 print_bytes(rt, name.bytes())?;
                 if !parts.is_empty() {
                     print_types(rt, parts.as_slice())?;
                 }
-                before = "|";
+                is_first = false;
             }
             print!(rt; " ")
         }
@@ -135,7 +140,7 @@ fn passing_name(mode: Passing) -> &'static str {
 fn print_function(rt: &impl Print, function: &Function) -> io::Result<()> {
     print_bytes(rt, function.header.name.bytes())?;
     print!(rt; "(")?;
-    let mut before = "";
+    let mut is_first = true;
     let mut is_own = true;
     for (mode, ty) in function
         .modes
@@ -143,10 +148,13 @@ fn print_function(rt: &impl Print, function: &Function) -> io::Result<()> {
         .iter()
         .zip(function.header.params.as_slice().iter())
     {
+        if !is_first {
+            print!(rt; ",")?;
+        }
         let name = passing_name(*mode);
-        print!(rt; "{before}{name} ")?;
+        print!(rt; "{name} ")?;
         print_type(rt, ty)?;
-        before = ",";
+        is_first = false;
         is_own = is_own && *mode != Passing::Mutable;
     }
     print!(rt; ")->")?;
