@@ -1,6 +1,7 @@
 pub mod Binds
 pub mod Excludes
 pub mod Good
+pub mod Kept
 pub mod Layers
 pub mod Left
 pub mod Lies

@@ -1,5 +1,5 @@
 -- Expressions, statements and blocks: their nodes lie as in the outline.
-use Rattle.std.proofs.Common.{ℕ, ◌+◌, ◌≡◌, refl, sym, subst, Bool, Option, Some, None, List, [], ◌∷◌, map, length}
+use Rattle.std.proofs.Common.{ℕ, ◌+◌, ◌≡◌, refl, sym, subst, Bool, Option, Some, None, List, [], ◌∷◌, map, length, option_map}
 use Rattle.hs_syntax.specs.declared.span.Span.{Span}
 use Rattle.hs_syntax.specs.declared.file.File.{File}
 use Rattle.hs_syntax.specs.declared.exp.Arg.{Arg}
@@ -16,15 +16,19 @@ use Rattle.hs_syntax.specs.declared.exp.Arg.TheOpen.{Arg-F, Else-F, Exp-F, Postf
 use Rattle.hs_syntax.specs.declared.exp.Arg.TheOpen as exp
 use Rattle.hs_syntax.specs.declared.exp.Arg.TheViews.{roll-Arg, roll-Else, roll-Exp, roll-Postfix, roll-Step, roll-Stmt, roll-Arm, roll-Block, roll-If, roll-Operand}
 use Rattle.hs_syntax.specs.declared.exp.Arg.TheFolds.{map-Arg, map-Else, map-Exp, map-Postfix, map-Step, map-Stmt, map-Arm, map-Block, map-If, map-Operand, fold-roll-Arg, fold-roll-Else, fold-roll-Exp, fold-roll-Postfix, fold-roll-Step, fold-roll-Stmt, fold-roll-Arm, fold-roll-Block, fold-roll-If, fold-roll-Operand, ind-Exp, ind-Block}
-use Rattle.hs_limits.specs.Outline.{Outline, Node, Surplus, counted, none, join, node, part, statement, one, maybe, numbered, chain}
+use Rattle.hs_limits.specs.Outline.{Outline, Node, Surplus, counted, none, join, node, part, statement, one, numbered, chain}
 use Rattle.hs_limits.specs.Outline as outline
 use Rattle.hs_limits.specs.Nodes.{word, node_of_arg, node_of_else, node_of_exp, node_of_postfix, node_of_step, node_of_stmt, node_of_arm, node_of_block, node_of_if, node_of_operand}
 use Rattle.hs_limits.specs.Nodes as nodes
-use Rattle.hs_scope.specs.Scope.{Binding}
+use Rattle.hs_scope.specs.Scope.{Binding, look}
+use Rattle.hs_symbols.specs.declared.referent.Referent.{Referent}
+use Rattle.hs_symbols.specs.declared.referent.Referent.TheVariants as r
+use Rattle.hs_syntax.specs.Texts.{bytes_at}
 use Rattle.hs_resolver.specs.declared.known.Known.{Known}
 use Rattle.hs_resolver.specs.Parts.{Seen, Scoped, Line, all, every, in_order}
+use Rattle.hs_resolver.specs.Rules.{type_of}
 use Rattle.hs_resolver.specs.Names.{Behind, question, inner, with_behind, steps, alone, names_of_arg, names_of_else, names_of_exp, names_of_postfix, names_of_step, names_of_stmt, names_of_arm, names_of_block, names_of_if, names_of_operand, arg_layer, else_layer, exp_layer, postfix_layer, step_layer, stmt_layer, arm_layer, block_layer, if_layer, operand_layer}
-use Rattle.hs_resolver.proofs.Good.{Good, good_none, good_join, good_left, good_right, good_apart, good_node, good_leaf, good_inside, good_over, good_chain, one_rises}
+use Rattle.hs_resolver.proofs.Good.{Good, good_none, good_join, good_left, good_right, good_apart, good_node, good_leaf, good_inside, good_over, good_exit, good_known, good_chain, one_rises}
 use Rattle.hs_resolver.proofs.Patterns.{Fits, called_path_fits, value_path_fits, optional_fits, pat_fits, arm_pat_fits, variable_fits}
 
 abbrev pub ScopedFits : Node → Scoped → Type 0
@@ -43,12 +47,12 @@ module _ (C : Type 0) (f : C → Node) (g : C → Scoped) where
   abbrev Each : Type 0
   Each = (x : C) × ScopedFits (f x) (g x)
 
-  every_fits : (xs : List Each) (scope : List Binding) (k : Known) → Good (outline.all (map f (map (λ x. x.0) xs))) (every (map g (map (λ x. x.0) xs)) scope k).nodes
+  every_fits : (xs : List Each) (scope : List Binding) (k : Known) → Good (outline.all (map f (map (λ x. x.0) xs))) (every (map g (map (λ x. x.0) xs)) scope k).nodes k (every (map g (map (λ x. x.0) xs)) scope k).behind
   every_fits [] scope k = good_none
   every_fits (x ∷ xs) scope k = good_join (x.1 scope k) (every_fits xs scope (g x.0 scope k).behind)
 
   numbered_every_fits : (limit : ℕ) (what : Surplus) (i : ℕ) (xs : List Each) (scope : List Binding) (k : Known)
-      → Good (numbered limit what i (map f (map (λ x. x.0) xs))) (every (map g (map (λ x. x.0) xs)) scope k).nodes
+      → Good (numbered limit what i (map f (map (λ x. x.0) xs))) (every (map g (map (λ x. x.0) xs)) scope k).nodes k (every (map g (map (λ x. x.0) xs)) scope k).behind
   numbered_every_fits limit what i [] scope k = good_none
   numbered_every_fits limit what i (x ∷ xs) scope k = good_join (good_over (x.1 scope k)) (numbered_every_fits limit what (i + 1) xs scope (g x.0 scope k).behind)
 
@@ -113,28 +117,32 @@ module _ (file : File) (in_function : Bool) where
   abbrev O : Type 0
   O = (x : Operand) × OperandFits x
 
-  casts_fit : (ns : List Span) (k : Known) → Good (outline.all (map word ns)) (all (map (alone file) ns) k).nodes
+  -- the local that a name stands for
+  abbrev local_named : List Binding → Span → Option Referent
+  local_named scope n = option_map (λ number. r.Local number) (look (bytes_at file.text n) scope)
+
+  casts_fit : (ns : List Span) (k : Known) → Good (outline.all (map word ns)) (all (map (alone file) ns) k).nodes k (all (map (alone file) ns) k).behind
   casts_fit [] k = good_none
-  casts_fit (n ∷ ns) k = good_join (good_leaf (one_rises _ _)) (casts_fit ns (alone file n k).behind)
+  casts_fit (n ∷ ns) k = good_join (good_known (type_of file (bytes_at file.text n) 0) (one_rises _ _)) (casts_fit ns (alone file n k).behind)
 
   -- what stands behind an expression
-  next_fits : (start : ℕ) (scope : List Binding) (o : Outline) (a : Seen) (n : Node) (b : Behind) → BehindFits n b → Good o a.nodes
-      → Good (node (record { start = start; end = n.at.end }) counted None (join o (one n))) (with_behind file in_function start b scope a).nodes
-  next_fits start scope o a n (question s) e p =
-      subst (λ (s : Span). Good (node (record { start = start; end = n.at.end }) counted None (join o (one n))) (with_behind file in_function start (question s) scope a).nodes) e
-      (good_node (one_rises _ _) (good_left p))
-  next_fits start scope o a n (inner q) h p = good_inside (good_join p (h scope a.behind))
+  next_fits : (start : ℕ) (scope : List Binding) (o : Outline) (k : Known) (a : Seen) (n : Node) (b : Behind) → BehindFits n b → Good o a.nodes k a.behind
+      → Good (node (record { start = start; end = n.at.end }) counted None (join o (one n))) (with_behind file in_function start b scope a).nodes k (with_behind file in_function start b scope a).behind
+  next_fits start scope o k a n (question s) e p =
+      subst (λ (s : Span). Good (node (record { start = start; end = n.at.end }) counted None (join o (one n))) (with_behind file in_function start (question s) scope a).nodes k (with_behind file in_function start (question s) scope a).behind) e
+      (good_exit (record { start = start; end = n.at.end }) (good_node (one_rises _ _) (good_left p)))
+  next_fits start scope o k a n (inner q) h p = good_inside (good_join p (h scope a.behind))
 
-  steps_fit : (start : ℕ) (scope : List Binding) (o : Outline) (a : Seen) (xs : List P) → Good o a.nodes
-      → Good (chain start o (map node_of_postfix (map (λ x. x.0) xs))) (steps file in_function start (map (names_of_postfix file in_function) (map (λ x. x.0) xs)) scope a).nodes
-  steps_fit start scope o a [] p = p
-  steps_fit start scope o a (x ∷ xs) p =
-      steps_fit start scope (node (record { start = start; end = (node_of_postfix x.0).at.end }) counted None (join o (one (node_of_postfix x.0))))
+  steps_fit : (start : ℕ) (scope : List Binding) (o : Outline) (k : Known) (a : Seen) (xs : List P) → Good o a.nodes k a.behind
+      → Good (chain start o (map node_of_postfix (map (λ x. x.0) xs))) (steps file in_function start (map (names_of_postfix file in_function) (map (λ x. x.0) xs)) scope a).nodes k (steps file in_function start (map (names_of_postfix file in_function) (map (λ x. x.0) xs)) scope a).behind
+  steps_fit start scope o k a [] p = p
+  steps_fit start scope o k a (x ∷ xs) p =
+      steps_fit start scope (node (record { start = start; end = (node_of_postfix x.0).at.end }) counted None (join o (one (node_of_postfix x.0)))) k
       (with_behind file in_function start (names_of_postfix file in_function x.0) scope a) xs
-      (next_fits start scope o a (node_of_postfix x.0) (names_of_postfix file in_function x.0) x.1 p)
+      (next_fits start scope o k a (node_of_postfix x.0) (names_of_postfix file in_function x.0) x.1 p)
 
   lines_fit : (i : ℕ) (xs : List S) (scope : List Binding) (k : Known)
-      → Good (numbered 1024 statement i (map node_of_stmt (map (λ x. x.0) xs))) (in_order (map (names_of_stmt file in_function) (map (λ x. x.0) xs)) scope k).nodes
+      → Good (numbered 1024 statement i (map node_of_stmt (map (λ x. x.0) xs))) (in_order (map (names_of_stmt file in_function) (map (λ x. x.0) xs)) scope k).nodes k (in_order (map (names_of_stmt file in_function) (map (λ x. x.0) xs)) scope k).behind
   lines_fit i [] scope k = good_none
   lines_fit i (x ∷ xs) scope k =
       good_join (good_over (x.1 scope k))
@@ -152,7 +160,7 @@ module _ (file : File) (in_function : Bool) where
   arg_layer_fits : (y : Arg-F A L E P T S R B I O) → ScopedFits (arg_outlines (arg_inside y)) (arg_parts (arg_inside y))
   arg_layer_fits (exp.Value e) scope k = e.1 scope k
   arg_layer_fits (exp.Shared s e) scope k = good_inside (e.1 scope k)
-  arg_layer_fits (exp.Lent s n) scope k = good_inside (good_leaf (one_rises _ _))
+  arg_layer_fits (exp.Lent s n) scope k = good_inside (good_known (local_named scope n) (one_rises _ _))
   arg_layer_fits (exp.List s es) scope k = good_inside (every_fits Exp node_of_exp (names_of_exp file in_function) es scope k)
 
   arg_level : (y : Arg-F A L E P T S R B I O) → ArgFits (roll-Arg (arg_inside y))
@@ -198,7 +206,7 @@ module _ (file : File) (in_function : Bool) where
   exp_layer_fits (exp.Block b) scope k = b.1 scope k
   exp_layer_fits (exp.If i) scope k = i.1 scope k
   exp_layer_fits (exp.Match s e as') scope k = good_inside (good_join (e.1 scope k) (every_fits Arm node_of_arm (names_of_arm file in_function) as' scope _))
-  exp_layer_fits (exp.Post s e ps) scope k = good_inside (steps_fit s.start scope (one (node_of_exp e.0)) (names_of_exp file in_function e.0 scope k) ps (e.1 scope k))
+  exp_layer_fits (exp.Post s e ps) scope k = good_inside (steps_fit s.start scope (one (node_of_exp e.0)) k (names_of_exp file in_function e.0 scope k) ps (e.1 scope k))
   exp_layer_fits (exp.Prefix s o e) scope k = good_inside (e.1 scope k)
   exp_layer_fits (exp.Cast s e ns) scope k = good_inside (good_chain s.start (one (node_of_exp e.0)) (map word ns) (good_join (e.1 scope k) (casts_fit ns _)))
   exp_layer_fits (exp.Binary s e os) scope k = good_inside (good_chain s.start (one (node_of_exp e.0)) (map node_of_operand (map (λ x. x.0) os)) (good_join (e.1 scope k) (every_fits Operand node_of_operand (names_of_operand file in_function) os scope _)))
@@ -256,10 +264,10 @@ module _ (file : File) (in_function : Bool) where
 
   stmt_layer_fits : (y : Stmt-F A L E P T S R B I O) → LineFits (stmt_outlines (stmt_inside y)) (stmt_parts (stmt_inside y))
   stmt_layer_fits (exp.Let s p t e) scope k = good_inside (good_join (pat_fits file in_function p (length k.places) k) (good_join (optional_fits file t _) (e.1 scope _)))
-  stmt_layer_fits (exp.Assign s t ps o e) scope k = good_inside (good_apart (good_leaf (one_rises _ _)) (every_fits Step node_of_step (names_of_step file in_function) ps scope _) (e.1 scope _))
+  stmt_layer_fits (exp.Assign s t ps o e) scope k = good_inside (good_apart (good_known (local_named scope t.name) (one_rises _ _)) (every_fits Step node_of_step (names_of_step file in_function) ps scope _) (e.1 scope _))
   stmt_layer_fits (exp.For s x e f b) scope k = good_inside (good_join (variable_fits file in_function x k) (good_join (e.1 scope _) (good_join (f.1 scope _) (b.1 _ _))))
-  stmt_layer_fits (exp.Return s None) scope k = good_leaf (one_rises _ _)
-  stmt_layer_fits (exp.Return s (Some e)) scope k = good_node (one_rises _ _) (e.1 scope k)
+  stmt_layer_fits (exp.Return s None) scope k = good_exit s (good_leaf (one_rises _ _))
+  stmt_layer_fits (exp.Return s (Some e)) scope k = good_exit s (good_node (one_rises _ _) (e.1 scope k))
   stmt_layer_fits (exp.Bare e) scope k = good_inside (e.1 scope k)
   stmt_layer_fits (exp.Exp s e) scope k = good_inside (e.1 scope k)
 

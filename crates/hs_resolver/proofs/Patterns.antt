@@ -20,43 +20,45 @@ use Rattle.hs_syntax.specs.declared.exp.Variable.{Variable}
 use Rattle.hs_syntax.specs.declared.exp.Variable.TheVariants as variable
 use Rattle.hs_syntax.specs.Texts.{bytes_at}
 use Rattle.hs_syntax.specs.Spans.{span_of_variable}
-use Rattle.hs_limits.specs.Outline.{Node, Surplus, part, one, maybe, numbered}
+use Rattle.hs_limits.specs.Outline.{Node, Surplus, part, one, numbered}
 use Rattle.hs_limits.specs.Outline as outline
-use Rattle.hs_limits.specs.Nodes.{word, name, node_of_ty, node_of_pat, node_of_arm_pat, node_of_path}
+use Rattle.hs_limits.specs.Nodes.{word, node_of_ty, node_of_pat, node_of_arm_pat, node_of_path}
 use Rattle.hs_limits.specs.Nodes as nodes
 use Rattle.hs_scope.specs.Scope.{Binding}
 use Rattle.hs_symbols.specs.declared.referent.Referent.{Referent}
+use Rattle.hs_symbols.specs.declared.referent.Referent.TheVariants as r
+use Rattle.hs_symbols.specs.Symbols.{callee_named, value_named, ctor_named}
 use Rattle.hs_resolver.specs.declared.known.Known.{Known}
 use Rattle.hs_resolver.specs.Parts.{Part, all, every, meaning}
-use Rattle.hs_resolver.specs.Rules.{unknown_of}
-use Rattle.hs_resolver.specs.Names.{names_of_ty, ty_layer, optional_ty, names_of_pat, names_of_pats, pat_layer, names_of_arm_pat, binds, binds_all, binds_layer, binds_of_arm, value_path, called_path, ctor_path, variable_place}
+use Rattle.hs_resolver.specs.Rules.{type_of, path_maker, unknown_of}
+use Rattle.hs_resolver.specs.Names.{names_of_ty, ty_layer, optional_ty, names_of_pat, names_of_pats, pat_layer, names_of_arm_pat, binds, binds_all, binds_layer, binds_of_arm, value_path, called_path, member_of, ctor_path, variable_place}
 use Rattle.hs_resolver.specs.Walks.{Began}
-use Rattle.hs_resolver.proofs.Good.{Good, good_none, good_join, good_left, good_right, good_node, good_leaf, good_inside, good_over, good_across, one_rises, both_rise}
+use Rattle.hs_resolver.proofs.Good.{Good, good_none, good_join, good_left, good_node, good_inside, good_over, good_known, good_bound, good_place, good_path, good_behind, good_across, one_rises, both_rise}
 
 abbrev pub Fits : Node → Part → Type 0
-Fits n p = (k : Known) → Good (one n) (p k).nodes
+Fits n p = (k : Known) → Good (one n) (p k).nodes k (p k).behind
 
 -- in a row, where it holds of each
 module _ (C : Type 0) (f : C → Node) (g : C → Part) where
   abbrev pub EachFits : Type 0
   EachFits = (x : C) × Fits (f x) (g x)
 
-  pub all_fit : (xs : List EachFits) (k : Known) → Good (outline.all (map f (map (λ x. x.0) xs))) (all (map g (map (λ x. x.0) xs)) k).nodes
+  pub all_fit : (xs : List EachFits) (k : Known) → Good (outline.all (map f (map (λ x. x.0) xs))) (all (map g (map (λ x. x.0) xs)) k).nodes k (all (map g (map (λ x. x.0) xs)) k).behind
   all_fit [] k = good_none
   all_fit (x ∷ xs) k = good_join (x.1 k) (all_fit xs (g x.0 k).behind)
 
   pub numbered_fit : (limit : ℕ) (what : Surplus) (i : ℕ) (xs : List EachFits) (k : Known)
-      → Good (numbered limit what i (map f (map (λ x. x.0) xs))) (all (map g (map (λ x. x.0) xs)) k).nodes
+      → Good (numbered limit what i (map f (map (λ x. x.0) xs))) (all (map g (map (λ x. x.0) xs)) k).nodes k (all (map g (map (λ x. x.0) xs)) k).behind
   numbered_fit limit what i [] k = good_none
   numbered_fit limit what i (x ∷ xs) k = good_join (good_over (x.1 k)) (numbered_fit limit what (i + 1) xs (g x.0 k).behind)
 
   -- where it holds of all
-  pub all_fits : ((x : C) → Fits (f x) (g x)) → (xs : List C) (k : Known) → Good (outline.all (map f xs)) (all (map g xs) k).nodes
+  pub all_fits : ((x : C) → Fits (f x) (g x)) → (xs : List C) (k : Known) → Good (outline.all (map f xs)) (all (map g xs) k).nodes k (all (map g xs) k).behind
   all_fits h [] k = good_none
   all_fits h (x ∷ xs) k = good_join (h x k) (all_fits h xs (g x k).behind)
 
   pub numbered_fits : ((x : C) → Fits (f x) (g x)) → (limit : ℕ) (what : Surplus) (i : ℕ) (xs : List C) (k : Known)
-      → Good (numbered limit what i (map f xs)) (all (map g xs) k).nodes
+      → Good (numbered limit what i (map f xs)) (all (map g xs) k).nodes k (all (map g xs) k).behind
   numbered_fits h limit what i [] k = good_none
   numbered_fits h limit what i (x ∷ xs) k = good_join (good_over (h x k)) (numbered_fits h limit what (i + 1) xs (g x k).behind)
 
@@ -81,10 +83,10 @@ module _ (file : File) where
   LayerFits y = Fits (nodes.ty_layer (map-Ty Ty Node node_of_ty (inside y))) (ty_layer file (map-Ty Ty Part (names_of_ty file) (inside y)))
 
   ty_layer_fits : (y : Ty-F FitTy) → LayerFits y
-  ty_layer_fits (ty.Name n) k = good_leaf (one_rises _ _)
+  ty_layer_fits (ty.Name n) k = good_known (type_of file (bytes_at file.text n) 0) (one_rises _ _)
   ty_layer_fits (ty.Unit s) k = good_none
   ty_layer_fits (ty.Tuple s ts) k = good_inside (numbered_fit Ty node_of_ty (names_of_ty file) 12 part 0 ts k)
-  ty_layer_fits (ty.Applied s n ts) k = good_inside (good_join (good_leaf (one_rises _ _)) (all_fit Ty node_of_ty (names_of_ty file) ts _))
+  ty_layer_fits (ty.Applied s n ts) k = good_inside (good_join (good_known (type_of file (bytes_at file.text n) (length (map (names_of_ty file) (map (λ (x : FitTy). x.0) ts)))) (one_rises _ _)) (all_fit Ty node_of_ty (names_of_ty file) ts _))
 
   ty_level : (y : Ty-F FitTy) → TyFits (roll-Ty (inside y))
   ty_level y =
@@ -94,7 +96,7 @@ module _ (file : File) where
   pub ty_fits : (t : Ty) → TyFits t
   ty_fits = ind-Ty TyFits (λ x y is. subst (λ z. TyFits (roll-Ty z)) is (ty_level y))
 
-  pub optional_fits : (t : Option Ty) (k : Known) → Good (nodes.optional_ty t) (optional_ty file t k).nodes
+  pub optional_fits : (t : Option Ty) (k : Known) → Good (nodes.optional_ty t) (optional_ty file t k).nodes k (optional_ty file t k).behind
   optional_fits None k = good_none
   optional_fits (Some t) k = ty_fits t k
 
@@ -128,14 +130,15 @@ module _ (file : File) where
   -- ---- paths
 
   pub value_path_fits : (p : Path) (scope : List Binding) → Fits (node_of_path p) (value_path file p scope)
-  value_path_fits (path.Name s) scope k = good_leaf (one_rises _ _)
-  value_path_fits (path.Member s t x) scope k = good_leaf (one_rises _ _)
-  value_path_fits (path.Of s n t x) scope k = good_node (one_rises (unknown_of file (bytes_at file.text n)) N4) (good_right (good_left (ty_fits t _)))
+  value_path_fits (path.Name s) scope k = good_known (value_named file.text file.items scope (bytes_at file.text s)) (one_rises _ _)
+  value_path_fits (path.Member s t x) scope k = good_path (type_of file (bytes_at file.text t) 0) (member_of file t x) (one_rises _ _)
+  value_path_fits (path.Of s n t x) scope k =
+      good_node (one_rises (unknown_of file (bytes_at file.text n)) N4) (good_behind (path_maker (bytes_at file.text n)) (good_left (ty_fits t _)))
 
   pub called_path_fits : (p : Path) → Fits (node_of_path p) (called_path file p)
-  called_path_fits (path.Name s) k = good_leaf (one_rises _ _)
-  called_path_fits (path.Member s t x) k = good_leaf (one_rises _ _)
-  called_path_fits (path.Of s n t x) k = good_node (one_rises _ _) (good_right (good_left (ty_fits t _)))
+  called_path_fits (path.Name s) k = good_known (callee_named file.text file.items (bytes_at file.text s)) (one_rises _ _)
+  called_path_fits (path.Member s t x) k = good_path (type_of file (bytes_at file.text t) 0) (member_of file t x) (one_rises _ _)
+  called_path_fits (path.Of s n t x) k = good_node (one_rises _ _) (good_behind (path_maker (bytes_at file.text n)) (good_left (ty_fits t _)))
 
   -- a path binds nothing
   pub path_began : (s t n : Span) (names : List (List ℕ)) (start : ℕ) (k new : Known) → new ≡ (ctor_path file s t n k).behind → Began file.text names start k
@@ -156,21 +159,21 @@ module _ (file : File) where
     abbrev pats_inside : Pat-F FitPat → Pat-F Pat
     pats_inside y = map-Pat FitPat Pat (λ x. x.0) y
 
-    pats_fit : (ps : List FitPat) (start : ℕ) (k : Known) → Good (outline.all (map node_of_pat (map (λ x. x.0) ps))) (every (map (names_of_pat file in_function) (map (λ x. x.0) ps)) start k).nodes
+    pats_fit : (ps : List FitPat) (start : ℕ) (k : Known) → Good (outline.all (map node_of_pat (map (λ x. x.0) ps))) (every (map (names_of_pat file in_function) (map (λ x. x.0) ps)) start k).nodes k (every (map (names_of_pat file in_function) (map (λ x. x.0) ps)) start k).behind
     pats_fit [] start k = good_none
     pats_fit (p ∷ ps) start k = good_join (p.1 start k) (pats_fit ps start (names_of_pat file in_function p.0 start k).behind)
 
     numbered_pats_fit : (i : ℕ) (ps : List FitPat) (start : ℕ) (k : Known)
-        → Good (numbered 12 part i (map node_of_pat (map (λ x. x.0) ps))) (every (map (names_of_pat file in_function) (map (λ x. x.0) ps)) start k).nodes
+        → Good (numbered 12 part i (map node_of_pat (map (λ x. x.0) ps))) (every (map (names_of_pat file in_function) (map (λ x. x.0) ps)) start k).nodes k (every (map (names_of_pat file in_function) (map (λ x. x.0) ps)) start k).behind
     numbered_pats_fit i [] start k = good_none
     numbered_pats_fit i (p ∷ ps) start k = good_join (good_over (p.1 start k)) (numbered_pats_fit (i + 1) ps start (names_of_pat file in_function p.0 start k).behind)
 
     pat_layer_fits : (y : Pat-F FitPat) (start : ℕ)
         → Fits (nodes.pat_layer (map-Pat Pat Node node_of_pat (pats_inside y))) (pat_layer file in_function (map-Pat Pat (ℕ → Part) (names_of_pat file in_function) (pats_inside y)) start)
-    pat_layer_fits (pat.Name s m n) start k = good_inside (good_leaf (both_rise _ _))
+    pat_layer_fits (pat.Name s m n) start k = good_inside (good_bound (r.Local (length k.places)) (both_rise _ _))
     pat_layer_fits (pat.Any s) start k = good_none
     pat_layer_fits (pat.Tuple s ps) start k = good_inside (numbered_pats_fit 0 ps start k)
-    pat_layer_fits (pat.Struct s n ps) start k = good_inside (good_join (good_leaf (one_rises _ _)) (pats_fit ps start _))
+    pat_layer_fits (pat.Struct s n ps) start k = good_inside (good_join (good_known (ctor_named file.text file.items (bytes_at file.text n)) (one_rises _ _)) (pats_fit ps start _))
 
     pat_level : (y : Pat-F FitPat) → PatFits (roll-Pat (pats_inside y))
     pat_level y =
@@ -181,19 +184,19 @@ module _ (file : File) where
     pub pat_fits : (p : Pat) → PatFits p
     pat_fits = ind-Pat PatFits (λ x y is. subst (λ z. PatFits (roll-Pat z)) is (pat_level y))
 
-    names_of_pats_fit : (ps : List Pat) (start : ℕ) (k : Known) → Good (outline.all (map node_of_pat ps)) (names_of_pats file in_function ps start k).nodes
+    names_of_pats_fit : (ps : List Pat) (start : ℕ) (k : Known) → Good (outline.all (map node_of_pat ps)) (names_of_pats file in_function ps start k).nodes k (names_of_pats file in_function ps start k).behind
     names_of_pats_fit [] start k = good_none
     names_of_pats_fit (p ∷ ps) start k = good_join (pat_fits p start k) (names_of_pats_fit ps start (names_of_pat file in_function p start k).behind)
 
     pub arm_pat_fits : (p : ArmPat) (start : ℕ) → Fits (node_of_arm_pat p) (names_of_arm_pat file in_function p start)
     arm_pat_fits (arm_pat.Any s) start k = good_none
-    arm_pat_fits (arm_pat.Ctor s n ps) start k = good_inside (good_join (good_leaf (one_rises _ _)) (names_of_pats_fit ps start _))
-    arm_pat_fits (arm_pat.Member s t n ps) start k = good_inside (good_across (one_rises _ _) (names_of_pats_fit ps start _))
+    arm_pat_fits (arm_pat.Ctor s n ps) start k = good_inside (good_join (good_known (ctor_named file.text file.items (bytes_at file.text n)) (one_rises _ _)) (names_of_pats_fit ps start _))
+    arm_pat_fits (arm_pat.Member s t n ps) start k = good_inside (good_across (type_of file (bytes_at file.text t) 0) (member_of file t n) (one_rises _ _) (names_of_pats_fit ps start _))
 
     pub variable_fits : (x : Variable) → Fits (word (span_of_variable x)) (variable_place file in_function x)
     unfolding span_of_variable
-    variable_fits (variable.Name n) k = good_leaf (one_rises _ _)
-    variable_fits (variable.Any s) k = good_leaf (one_rises _ _)
+    variable_fits (variable.Name n) k = good_bound (r.Local (length k.places)) (one_rises _ _)
+    variable_fits (variable.Any s) k = good_place (one_rises _ _)
 
     -- ---- what patterns bind
 

@@ -3,3 +3,4 @@ pub mod Parts
 pub mod Names
 pub mod Order
 pub mod Walks
+pub mod InOrder

@@ -6,6 +6,7 @@ ghost use Rattle.hs_syntax.specs.declared.item.Item.{Item};
 ghost use Rattle.hs_limits.specs.Nested.{NestedFile};
 ghost use Rattle.hs_marks.specs.First.{first};
 ghost use Rattle.hs_marks.specs.Says.{Makes};
+ghost use Rattle.hs_resolver.specs.InOrder.{EachInOrder};
 ghost use Rattle.hs_resolver.specs.Names as n;
 ghost use Rattle.hs_resolver.specs.Order as o;
 
@@ -158,6 +159,7 @@ pub fn resolve(alloc: Global, file: &File) -> Result<Names, Stop>
     ensures names { o.Resolves file.now result }
     ensures only_told { (told : Broken) → o.TellsNames file.now told → (result ≡ Err (Stop.Broken told)) ⊎ (result ≡ Err Stop.NoMemory) }
     ensures order { IfOk result (λ names. o.EachBehindNeeds file.now names.order) }
+    ensures in_order { IfOk result (λ names. EachInOrder names.items) }
 {
     first_is_told();
     match names_of(alloc, file) {

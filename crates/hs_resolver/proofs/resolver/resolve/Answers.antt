@@ -5,7 +5,7 @@ use Rattle.hs_marks.specs.Told.{Told}
 use Rattle.hs_resolver.specs.Names.{marked}
 use Rattle.hs_resolver.specs.Order.{broken}
 use Rattle.hs_resolver.proofs.Needs.{told_where, none_where}
-use Rattle.hs_resolver.proofs.Outlined.{marked_lies, marked_rises}
+use Rattle.hs_resolver.proofs.Outlined.{marked_lies, marked_rises, answers_in_order}
 use Rattle.hs_resolver.proofs.Excludes.{names_only}
 use Rattle.hs_resolver.proofs.resolver.resolve.Goals as goal
 
@@ -35,3 +35,6 @@ pub returns-in-Err-Breach-clause-only_told : goal.returns-in-Err-Breach-clause-o
 returns-in-Err-Breach-clause-only_told c =
     let file = c.args.file.now in
     names_only file (c.first_is_told.ensures.alone (marked file) 0 c.requires.0 (marked_lies file c.requires) (marked_rises file)) (Err (stop.Broken c.told.result)) (returns-in-Err-Breach-clause-names c)
+
+pub returns-in-Ok-clause-in_order : goal.returns-in-Ok-clause-in_order
+returns-in-Ok-clause-in_order c = answers_in_order c.args.file.now c.requires c.ordered.result c.ordered.ensures.names
