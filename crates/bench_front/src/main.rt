@@ -90,6 +90,17 @@ fn filled(
     Ok(text)
 }
 
+/// Functions of nearly so many bytes in all, each with a name of its own, of a line of up to 70 bytes.
+fn functions(alloc: Global, length: usize) -> Result<Vec<u8>, AllocError> {
+    let mut text = Vec::new(alloc);
+    for number in 0..length / 70 {
+        let name = format!(in alloc; "fn f{number}")?;
+        text.extend_from_slice(name.as_bytes())?;
+        text.extend_from_slice(b"(a: u8) -> u8 { let b = a + 1; let c = b + 2; c + 3 }\n")?;
+    }
+    Ok(text)
+}
+
 /// A text of about so many bytes, if there is such a kind.
 fn text_of(alloc: Global, kind: &str, length: usize) -> Result<Option<Vec<u8>>, AllocError> {
     let text = match kind {
@@ -112,16 +123,13 @@ fn text_of(alloc: Global, kind: &str, length: usize) -> Result<Option<Vec<u8>>, 
             let head = b"fn f(a: u32) -> u32 { let mut x: u32 = a; ";
             filled(alloc, head, &sum(alloc, b"x =          a")?, b"x }", length)?
         }
-        "functions" => filled(
-            alloc,
-            b"",
-            b"fn f(a: u8) -> u8 { let b = a; b + 1 }\n",
-            b"",
-            length,
-        )?,
+        "functions" => functions(alloc, length)?,
         "sum" => filled(alloc, b"fn f() -> u32 { 1", b" + a[1]", b" }", length)?,
         "nesting" => filled(alloc, b"fn f() { ", &parentheses(alloc)?, b"}", length)?,
-        "list" => filled(alloc, b"fn f() { g(1", b", a, &b", b") }", length)?,
+        "list" => {
+            let head = b"fn g() {} fn f(a: u32, b: u32) { g(1";
+            filled(alloc, head, b", a, &b", b") }", length)?
+        }
         _ => return Ok(None),
     };
     Ok(Some(text))
