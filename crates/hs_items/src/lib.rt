@@ -18,7 +18,7 @@ mod types;
 
 pub use decls::{Declaration, Decls, Function, Passing};
 pub use facts::Facts;
-pub use law::declarations_exclude;
+pub use law::{declarations_exclude, facts_are_of_whole_types};
 pub use meaning::Meanings;
 pub use promises::{sizes_agree, written_types_are_sure};
 pub use shape::Shape;
