@@ -1,5 +1,5 @@
 -- What is asked of a written type is what is asked of the type that it means, as far as 32 bits hold it.
-use Rattle.std.proofs.Common.{ℕ, zero, suc, ◌+◌, ◌≡◌, ◌≤◌, ◌<◌, ◌⊎◌, inl, inr, refl, sym, ◌∙◌, ap, ap₂, subst, max, Bool, true, ltb, ◌&&◌, ◌||◌, List, [], ◌∷◌, map, length, Option, Some, None, arith}
+use Rattle.std.proofs.Common.{ℕ, ◌+◌, ◌≡◌, ◌≤◌, ◌<◌, ◌⊎◌, inl, inr, refl, sym, ◌∙◌, ap, ap₂, subst, max, Bool, ltb, ◌&&◌, ◌||◌, List, [], ◌∷◌, map, length, Option, Some, None, arith}
 use Rattle.std.proofs.lemmas.List.{length-map}
 use Rattle.std.proofs.lemmas.Bool.{cases_lt}
 use Rattle.std.proofs.lemmas.Bool.Decides.{nat_tests}
@@ -29,7 +29,7 @@ use Rattle.hs_items.specs.declared.shape.Shape.TheVariants as shape
 use Rattle.hs_items.specs.Whole.{Whole, none, join, entry, expand_layer, expanded, facts_of, height, nodes, items, copied, has_zero}
 use Rattle.hs_items.specs.Whole as whole
 use Rattle.hs_items.specs.Rules.{too_great}
-use Rattle.hs_items.specs.Meaning.{stands, known, unit, tuple, built_type, named_type, meaning, meaning_layer}
+use Rattle.hs_items.specs.Meaning.{stands, known, unit, tuple, built_type, named_type, meaning_layer}
 use Rattle.hs_items.specs.Nodes.{row}
 use Rattle.hs_items.specs.Marks.{when, Written, asked_of, means_of, parts_mean, written, written_layer}
 use Rattle.hs_items.specs.Walk.{limited, nothing, over, single, of_row, built_facts, named_facts, Measured, marked_of, of_parts, measured, measured_layer, facts_of_ty, nodes_of_ty}

@@ -1,5 +1,5 @@
 -- The names of types: a type whose names are among the first entries of a table is expanded alike by all tables that begin so.
-use Rattle.std.proofs.Common.{ℕ, zero, suc, ◌+◌, ◌≡◌, ◌<◌, ◌≤◌, refl, sym, ◌∙◌, ap, ap₂, subst, Bool, true, false, cond, ltb, ◌&&◌, nat_eq, List, [], ◌∷◌, ◌++◌, map, length, reverse, append_assoc, append-nil, Option, Some, None, arith}
+use Rattle.std.proofs.Common.{ℕ, ◌+◌, ◌≡◌, ◌<◌, ◌≤◌, refl, sym, ◌∙◌, ap, ap₂, subst, Bool, true, false, cond, ltb, ◌&&◌, nat_eq, List, [], ◌∷◌, ◌++◌, map, length, reverse, append_assoc, append-nil, Option, Some, None, arith}
 use Rattle.std.specs.List.{list_all}
 use Rattle.std.proofs.lemmas.List.{length-append, length-reverse, reverse-append}
 use Rattle.std.proofs.lemmas.Bool.Decides.{nat_tests}

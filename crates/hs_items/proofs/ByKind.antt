@@ -15,7 +15,7 @@ use Rattle.hs_marks.specs.Says.{SaysNone}
 use Rattle.hs_items.specs.declared.facts.Facts.{Facts}
 use Rattle.hs_items.specs.Meaning.{derives_copy}
 use Rattle.hs_items.specs.Nodes.{row, in_types, in_ctor, in_kind}
-use Rattle.hs_items.specs.Marks.{data_rules, all_copied, ctors_copied, broken_by, item_nodes}
+use Rattle.hs_items.specs.Marks.{data_rules, broken_by, item_nodes}
 use Rattle.hs_items.specs.Walk.{facts_of_ty, nodes_of_ty, facts_of_tys, facts_of_ctors}
 use Rattle.hs_items.proofs.Copied.{tys_copied, ctors_are_copied}
 

@@ -9,7 +9,7 @@ use Rattle.hs_marks.specs.Marked.{Marked}
 use Rattle.hs_items.specs.declared.facts.Facts.{Facts}
 use Rattle.hs_items.specs.Whole.{facts_of}
 use Rattle.hs_items.specs.Whole as whole
-use Rattle.hs_items.specs.Marks.{array_rules, data_rules, all_copied, ctors_copied}
+use Rattle.hs_items.specs.Marks.{array_rules, all_copied, ctors_copied}
 use Rattle.hs_items.specs.Walk.{nothing, joined, over, single, of_row, facts_of_ty, facts_of_tys, facts_of_ctors}
 
 and_assoc : (a b c : Bool) → ((a && b) && c) ≡ (a && (b && c))

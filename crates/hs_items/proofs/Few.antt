@@ -1,5 +1,5 @@
 -- Lists of one type or two, and what is made of them.
-use Rattle.std.proofs.Common.{ℕ, ◌≡◌, ◌≢◌, refl, sym, ◌∙◌, ap, List, [], ◌∷◌, ◌++◌, length, Option, Some, None, arith}
+use Rattle.std.proofs.Common.{◌≡◌, ◌≢◌, refl, sym, ◌∙◌, ap, List, [], ◌∷◌, ◌++◌, length, Some, None, arith}
 use Rattle.std.proofs.lemmas.List.{length-append}
 use Rattle.hs_values.specs.declared.types.ValType.{ValType}
 use Rattle.hs_items.specs.Meaning.{unit, of_one, of_two}

@@ -1,5 +1,5 @@
 -- What is known of items that are listed, one item more at a time.
-use Rattle.std.proofs.Common.{ℕ, zero, suc, ◌+◌, ◌≡◌, ◌≢◌, ◌<◌, ◌≤◌, ◌⊎◌, inl, inr, refl, sym, ◌∙◌, ap, ap₂, subst, Bool, true, false, cond, ltb, ◌&&◌, nat_eq, List, [], ◌∷◌, ◌++◌, map, length, reverse, get_or, set, slice_get, append-nil, Option, Some, None, arith}
+use Rattle.std.proofs.Common.{ℕ, zero, suc, ◌+◌, ◌≡◌, ◌≢◌, ◌<◌, ◌≤◌, ◌⊎◌, inl, inr, refl, sym, ◌∙◌, ap, ap₂, subst, Bool, true, false, cond, nat_eq, List, [], ◌∷◌, ◌++◌, map, length, reverse, get_or, set, slice_get, append-nil, Option, Some, None, arith}
 use Rattle.std.specs.List.{list_all}
 use Rattle.std.proofs.lemmas.List.{length-append, reverse-append, get_or-set_same, get_or-set_other}
 use Rattle.std.proofs.lemmas.Bool.Decides.{nat_tests}
@@ -25,13 +25,13 @@ use Rattle.hs_items.specs.declared.shape.Shape.{Shape}
 use Rattle.hs_items.specs.declared.shape.Shape.TheVariants as shape
 use Rattle.hs_items.specs.declared.decls.Declaration.{Declaration}
 use Rattle.hs_items.specs.declared.decls.Declaration.TheVariants as d
-use Rattle.hs_items.specs.Whole.{Whole, none, join, node, row, expand, expand_ctors, expand_layer, expand_def, entry, expanded, facts_of}
-use Rattle.hs_items.specs.Meaning.{unit, tuple, meaning, meanings, result_type, lent_type, lent_types, given, function, ctors, definition, definitions, declaration, derives_copy, type_in, Listed, stands, with_item, listed, known}
-use Rattle.hs_items.specs.Declares.{below, all_below, kind_below, declaration_below, NamesEarlier, NamesEntries}
+use Rattle.hs_items.specs.Whole.{Whole, none, join, node, row, expand_ctors, expand_layer, expand_def, entry, expanded, facts_of}
+use Rattle.hs_items.specs.Meaning.{meaning, meanings, result_type, lent_type, lent_types, given, function, ctors, definitions, declaration, derives_copy, type_in, Listed, stands, with_item, listed, known}
+use Rattle.hs_items.specs.Declares.{below, all_below, kind_below, declaration_below, NamesEarlier}
 use Rattle.hs_items.specs.Walk.{limited, single, over, of_row, at, facts_of_ty, facts_of_tys, facts_of_ctors, facts_of_kind, AgreeWith, AllSingle}
 use Rattle.hs_items.proofs.Asking.{join_none, over_is, of_row_is}
 use Rattle.hs_items.proofs.Agree.{unit_is, int_is, facts_agree}
-use Rattle.hs_items.proofs.Below.{both, and_left, and_right, three, first_of, second_of, third_of, wider, expanded_stays, entry_new, entry_stays, unit_below, int_below, number_below, tuple_below, meaning_below, meanings_below}
+use Rattle.hs_items.proofs.Below.{both, and_left, and_right, three, first_of, second_of, third_of, wider, expanded_stays, entry_new, unit_below, int_below, number_below, tuple_below, meaning_below, meanings_below}
 
 -- ---- names of earlier entries
 

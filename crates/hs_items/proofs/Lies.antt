@@ -1,5 +1,5 @@
 -- The written types of expressions, statements and blocks lie in them as the nodes of an outline do.
-use Rattle.std.proofs.Common.{ℕ, sym, subst, Option, Some, None, List, map, option_map}
+use Rattle.std.proofs.Common.{sym, subst, Option, Some, None, List, map}
 use Rattle.hs_syntax.specs.declared.span.Span.{Span}
 use Rattle.hs_syntax.specs.declared.ty.Ty.{Ty}
 use Rattle.hs_syntax.specs.declared.exp.Arg.{Arg}

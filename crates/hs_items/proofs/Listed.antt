@@ -1,6 +1,5 @@
 -- What is listed of items, one by one.
-use Rattle.std.proofs.Common.{ℕ, zero, suc, ◌+◌, ◌≡◌, ◌≢◌, ◌<◌, ◌≤◌, ◌⊎◌, inl, inr, refl, sym, ◌∙◌, ap, ap₂, subst, Bool, true, false, cond, nat_eq, ◌||◌, List, [], ◌∷◌, ◌++◌, map, length, reverse, get_or, set, take, drop, replicate, slice_get, append_assoc, append-nil, option_map, Option, Some, None, arith}
-use Rattle.std.specs.List.{list_any}
+use Rattle.std.proofs.Common.{ℕ, zero, suc, ◌+◌, ◌≡◌, ◌≢◌, ◌<◌, ◌≤◌, refl, sym, ◌∙◌, ap, ap₂, subst, Bool, true, false, cond, nat_eq, ◌||◌, List, [], ◌∷◌, ◌++◌, length, get_or, set, take, drop, replicate, slice_get, append_assoc, append-nil, option_map, Option, Some, None, arith}
 use Rattle.std.proofs.Math.Path.{fun_ext}
 use Rattle.std.proofs.lemmas.List.{length-append, length-set, length-replicate, length-take-le, get_or_append_left, get_or_push, get_or-set_same, get_or-set_other, take_more, take-append-drop}
 use Rattle.std.proofs.lemmas.Bool.Decides.{nat_tests}

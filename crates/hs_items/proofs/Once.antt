@@ -1,6 +1,6 @@
 -- The order has each item once, so it is no longer than the file has items; and these are no more than 32 bits number.
-use Rattle.std.proofs.Common.{ℕ, zero, suc, ◌+◌, ◌-◌, ◌≡◌, ◌≢◌, ◌<◌, ◌≤◌, ◌⊎◌, inl, inr, refl, sym, ◌∙◌, ap, Bool, true, false, cond, not, ◌&&◌, ◌||◌, nat_eq, List, [], ◌∷◌, ◌++◌, map, length, slice_get, Option, Some, None, arith}
-use Rattle.std.specs.List.{list_any, list_all}
+use Rattle.std.proofs.Common.{ℕ, zero, suc, ◌+◌, ◌-◌, ◌≡◌, ◌<◌, ◌≤◌, refl, sym, ◌∙◌, ap, Bool, true, false, cond, not, ◌&&◌, ◌||◌, nat_eq, List, [], ◌∷◌, ◌++◌, map, length, slice_get, Some, arith}
+use Rattle.std.specs.List.{list_all}
 use Rattle.std.proofs.lemmas.List.{length-map}
 use Rattle.std.proofs.lemmas.Bool.Decides.{nat_tests}
 use Rattle.hs_syntax.specs.declared.file.File.{File}
@@ -11,7 +11,7 @@ use Rattle.hs_order.specs.Order.{has, is_ready, ready, ready_from, IsOrder}
 use Rattle.hs_resolver.specs.Parts.{Seen}
 use Rattle.hs_resolver.specs.Names.{is_function, names_by, items_behind, names_of}
 use Rattle.hs_resolver.specs.Order.{items_of, needs}
-use Rattle.hs_items.specs.Walk.{EachOnce, NestedItems}
+use Rattle.hs_items.specs.Walk.{EachOnce}
 
 -- ---- lists of numbers
 

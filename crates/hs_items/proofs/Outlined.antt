@@ -1,11 +1,9 @@
 -- The nodes of a file that declarations are asked of lie as those of its outline, and what is broken first in them is the same by
 -- what is asked as far as 32 bits hold it.
 use Rattle.std.proofs.Common.{ℕ, ◌+◌, ◌*◌, ◌≡◌, refl, sym, ◌∙◌, ap, ap₂, subst, Bool, List, [], ◌∷◌, ◌++◌, map, ◌&&◌, not}
-use Rattle.std.specs.List.{list_all}
 use Rattle.std.proofs.Math.Path.{fun_ext}
 use Rattle.hs_base.specs.declared.rule.Rule.{Rule}
-use Rattle.hs_base.specs.declared.rule.Rule.TheVariants.{N8, N9, N11, N12, S2}
-use Rattle.hs_syntax.specs.declared.span.Span.{Span}
+use Rattle.hs_base.specs.declared.rule.Rule.TheVariants.{N8, N9, N11, N12}
 use Rattle.hs_syntax.specs.declared.ty.Ty.{Ty, roll-Ty}
 use Rattle.hs_syntax.specs.declared.ty.Ty.TheOpen.{Ty-F}
 use Rattle.hs_syntax.specs.declared.ty.Ty.TheOpen as ty
@@ -18,9 +16,9 @@ use Rattle.hs_syntax.specs.declared.item.ItemKind.{ItemKind}
 use Rattle.hs_syntax.specs.declared.item.ItemKind.TheVariants as item
 use Rattle.hs_marks.specs.Marked.{Marked, node}
 use Rattle.hs_marks.specs.Told.{Lies, Rising, RisesFrom}
-use Rattle.hs_limits.specs.Outline.{Node, Surplus, part, parameter, numbered}
+use Rattle.hs_limits.specs.Outline.{Node, part, parameter, numbered}
 use Rattle.hs_limits.specs.Outline as outline
-use Rattle.hs_limits.specs.Nodes.{node_of_ty, node_of_ctor, node_of_param, node_of_item, kind_outline, outline_of_items}
+use Rattle.hs_limits.specs.Nodes.{node_of_ty, node_of_ctor, node_of_param, kind_outline, outline_of_items}
 use Rattle.hs_limits.specs.Nodes as nodes
 use Rattle.hs_limits.specs.Nested.{NestedFile}
 use Rattle.hs_items.specs.declared.facts.Facts.{Facts}
@@ -28,11 +26,11 @@ use Rattle.hs_items.specs.Whole.{facts_of, single}
 use Rattle.hs_items.specs.Rules.{wrong_count, unfit, not_read}
 use Rattle.hs_items.specs.Meaning.{stands, known, derives_copy}
 use Rattle.hs_items.specs.Nodes.{row, in_types, in_ctor, in_param, in_kind}
-use Rattle.hs_items.specs.Marks.{when, array_rules, all_copied, ctors_copied, broken_by, item_nodes, items_nodes, Written, asked_of, means_of, written, written_layer, marked}
+use Rattle.hs_items.specs.Marks.{when, array_rules, broken_by, item_nodes, items_nodes, Written, asked_of, means_of, written, written_layer, marked}
 use Rattle.hs_items.specs.Walk.{limited, facts_of_ty, nodes_of_ty}
 use Rattle.hs_items.proofs.Counts.{wrong_product}
 use Rattle.hs_items.proofs.Agree.{facts_agree, nodes_agree}
-use Rattle.hs_items.proofs.Good.{Good, Fits, good_none, good_join, good_left, good_right, good_node, good_inside, good_over, one_rises, array_rises, numbered_fits}
+use Rattle.hs_items.proofs.Good.{Good, Fits, good_none, good_join, good_right, good_node, good_inside, good_over, one_rises, array_rises, numbered_fits}
 use Rattle.hs_items.proofs.Lies.{optional_fits, exp_fits, block_fits}
 
 -- ---- what an item breaks, as far as 32 bits hold what is asked

@@ -1,5 +1,5 @@
 -- An item of a file by its place.
-use Rattle.std.proofs.Common.{ℕ, ◌≡◌, refl, ap, sym, ◌∙◌, true, false, ltb, List, length, get_or, slice_get, Option, Some, None}
+use Rattle.std.proofs.Common.{ℕ, ◌≡◌, refl, ap, sym, ◌∙◌, true, false, ltb, List, length, get_or, slice_get, Some, None}
 use Rattle.std.proofs.lemmas.Option.{slice_get_read, slice_get_past}
 use Rattle.std.proofs.lemmas.Bool.{ltb-false, ltb-true}
 use Rattle.hs_syntax.specs.declared.item.Item.{Item}

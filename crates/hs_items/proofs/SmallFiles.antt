@@ -1,5 +1,5 @@
 -- What the definitions say of small files.
-use Rattle.std.proofs.Common.{◌≡◌, refl, ℕ, List, [], ◌∷◌}
+use Rattle.std.proofs.Common.{◌≡◌, [], ◌∷◌}
 use Rattle.hs_base.specs.declared.rule.Rule.TheVariants as rule
 use Rattle.hs_syntax.specs.Texts.{bytes_at}
 use Rattle.hs_syntax.specs.declared.ty.Ty.TheFolds.{fold-roll-Ty}

@@ -29,7 +29,6 @@ use Rattle.hs_values.specs.declared.types.ValType.{ValType, roll-ValType}
 use Rattle.hs_values.specs.declared.types.ValType.TheOpen as type
 use Rattle.hs_values.specs.declared.types.TypeKind.TheVariants as kind
 use Rattle.hs_values.specs.declared.types.TypeDef.{TypeDef}
-use Rattle.hs_items.specs.declared.decls.Function.{Function}
 use Rattle.hs_items.specs.declared.decls.Declaration.{Declaration}
 use Rattle.hs_items.specs.declared.decls.Declaration.TheVariants as d
 use Rattle.hs_items.specs.Meaning.{tuple, built_type, named_type, passing_of, given, meaning, meaning_layer, meanings, result_type, lent_type, lent_types, ctors, definition, definitions, declaration, derives_copy, Listed, stands, with_item, listed, type_in, known}

@@ -1,5 +1,5 @@
 -- What is answered: what the items of a file declare, or the rule that is told.
-use Rattle.std.specs.Prelude.{ℕ, ◌≡◌, Bool, true, ltb, ◌&&◌, List, [], ◌∷◌, ◌++◌, map, length, reverse, slice_get, Option, Some, None, option_map, Result, Ok, Err}
+use Rattle.std.specs.Prelude.{ℕ, ◌≡◌, Bool, true, ltb, ◌&&◌, List, [], length, slice_get, Some, option_map, Result, Ok, Err}
 use Rattle.std.specs.List.{list_all}
 use Rattle.hs_base.specs.declared.place.Broken.{Broken}
 use Rattle.hs_base.specs.declared.place.Stop.{Stop}

@@ -1,5 +1,5 @@
 -- Which rules the items and the written types of a file break.
-use Rattle.std.specs.Prelude.{ℕ, ◌*◌, Bool, cond, ◌&&◌, List, [], ◌∷◌, ◌++◌, map, length}
+use Rattle.std.specs.Prelude.{ℕ, ◌*◌, Bool, cond, List, [], ◌∷◌, ◌++◌, map, length}
 use Rattle.std.specs.List.{list_all}
 use Rattle.hs_base.specs.declared.rule.Rule.{Rule}
 use Rattle.hs_base.specs.declared.rule.Rule.TheVariants.{N8, N9, N11, N12, S2}
@@ -13,13 +13,13 @@ use Rattle.hs_syntax.specs.declared.item.Ctor.{Ctor}
 use Rattle.hs_syntax.specs.declared.item.ItemKind.{ItemKind}
 use Rattle.hs_syntax.specs.declared.item.ItemKind.TheVariants as item
 use Rattle.hs_syntax.specs.Texts.{bytes_at}
-use Rattle.hs_marks.specs.Marked.{Marked, Mark, none, join, node, marks}
+use Rattle.hs_marks.specs.Marked.{Marked, Mark, node, marks}
 use Rattle.hs_resolver.specs.Rules.{type_of}
 use Rattle.hs_values.specs.declared.types.ValType.{ValType}
 use Rattle.hs_items.specs.declared.facts.Facts.{Facts}
 use Rattle.hs_items.specs.Whole.{expanded, facts_of, single}
 use Rattle.hs_items.specs.Rules.{wrong_count, part_moves, unfit, not_read, too_great}
-use Rattle.hs_items.specs.Meaning.{Listed, stands, known, unit, tuple, named_type, meaning, derives_copy}
+use Rattle.hs_items.specs.Meaning.{stands, known, unit, tuple, named_type, meaning, derives_copy}
 use Rattle.hs_items.specs.Nodes.{row, in_kind}
 
 abbrev pub when : Bool → Rule → List Rule

@@ -1,5 +1,5 @@
 -- What written types mean, and what items declare.
-use Rattle.std.specs.Prelude.{ℕ, zero, suc, Bool, true, nat_eq, bytes_eq, codes, List, [], ◌∷◌, ◌++◌, map, length, reverse, slice_get, Option, Some, None, option_map, if◌then◌else◌}
+use Rattle.std.specs.Prelude.{ℕ, Bool, true, nat_eq, bytes_eq, codes, List, [], ◌∷◌, ◌++◌, map, length, reverse, slice_get, Option, Some, None, if◌then◌else◌}
 use Rattle.std.specs.List.{list_any}
 use Rattle.hs_words.specs.declared.kinds.IntTy.TheVariants as int
 use Rattle.hs_syntax.specs.declared.span.Span.{Span}

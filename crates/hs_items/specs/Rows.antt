@@ -1,5 +1,5 @@
 -- Small files, to show that the definitions compute.
-use Rattle.std.specs.Prelude.{ℕ, List, [], ◌∷◌, ◌++◌, codes, false, true, Some, None}
+use Rattle.std.specs.Prelude.{ℕ, List, [], ◌∷◌, codes, false, Some, None}
 use Rattle.hs_words.specs.declared.kinds.IntTy.TheVariants as int
 use Rattle.hs_syntax.specs.declared.span.Span.{Span}
 use Rattle.hs_syntax.specs.declared.span.Int.{Int}

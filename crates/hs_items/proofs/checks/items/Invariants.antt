@@ -1,4 +1,4 @@
-use Rattle.std.proofs.Common.{ℕ, ◌≡◌, drop}
+use Rattle.std.proofs.Common.{◌≡◌, drop}
 use Rattle.hs_marks.specs.First.{first}
 use Rattle.hs_items.specs.Marks.{items_nodes}
 use Rattle.hs_items.specs.Walk.{at, nodes_of_ty, facts_of_ty, AllFit}

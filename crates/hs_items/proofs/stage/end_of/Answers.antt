@@ -1,4 +1,4 @@
-use Rattle.std.proofs.Common.{◌≡◌, ◌+◌, Some, None, rules, arith}
+use Rattle.std.proofs.Common.{Some, rules, arith}
 use Rattle.hs_items.proofs.Once.{count_last}
 use Rattle.hs_items.proofs.stage.end_of.Goals as goal
 

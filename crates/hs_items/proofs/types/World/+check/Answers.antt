@@ -1,4 +1,4 @@
-use Rattle.std.proofs.Common.{◌≡◌, ◌∙◌, Err, length, rules}
+use Rattle.std.proofs.Common.{◌≡◌, ◌∙◌, Err, rules}
 use Rattle.hs_items.specs.Walk.{at}
 use Rattle.hs_items.proofs.Layers.{breaks_itself, tuple_stops, tuple_goes, applied_stops, applied_goes}
 use Rattle.hs_items.proofs.types.World.+check.Goals as goal
