@@ -1,6 +1,6 @@
 -- What the words of a form ask.
 use Rattle.std.proofs.Common.{◌≡◌, ℕ, List, [], ◌∷◌, Bool, true, false, cond, Option, Some, None, bytes_eq, codes, refl, sym, subst}
-use Rattle.hs_em.specs.Spelled.{is_module_name}
+use Rattle.hs_first_em.specs.Spelled.{is_module_name}
 use Rattle.hs_cli.specs.declared.command.Dialect.{Dialect}
 use Rattle.hs_cli.specs.Command.{Print, Command, AsksPrint, Named, dialect_of, print_of, command_of}
 

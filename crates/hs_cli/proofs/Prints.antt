@@ -1,9 +1,9 @@
 -- The layout of a module that keeps a program is exactly that module.
 use Rattle.std.proofs.Common.{◌≡◌, ℕ, List, sym, subst}
 use Rattle.hs_first_tree.specs.Plain as tree
-use Rattle.hs_em.specs.Plain.{Module}
-use Rattle.hs_em.specs.Spelled.{Spelled}
-use Rattle.hs_em.specs.Scoped.{Scoped}
+use Rattle.hs_first_em.specs.Plain.{Module}
+use Rattle.hs_first_em.specs.Spelled.{Spelled}
+use Rattle.hs_first_em.specs.Scoped.{Scoped}
 use Rattle.hs_fstar.specs.Reads.{Reads}
 use Rattle.hs_fstar.specs.Layout.{layout}
 use Rattle.hs_pipeline.specs.Same.{Same, Shape}

@@ -1,6 +1,6 @@
 -- What the words ask.
 use Rattle.std.specs.Prelude.{◌≡◌, ℕ, List, [], ◌∷◌, Option, Some, None, true, bytes_eq, codes, if◌then◌else◌}
-use Rattle.hs_em.specs.Spelled.{is_module_name}
+use Rattle.hs_first_em.specs.Spelled.{is_module_name}
 use Rattle.hs_cli.specs.declared.command.Dialect.{Dialect}
 use Rattle.hs_cli.specs.declared.command.Dialect.TheVariants.{FStar}
 

@@ -8,9 +8,9 @@ use Rattle.hs_parser.specs.declared.stop.ParseStop.{ParseStop}
 use Rattle.hs_parser.specs.declared.stop.ParseStop.TheVariants as stop
 use Rattle.hs_cli.specs.declared.status.Status.{Status}
 use Rattle.hs_cli.specs.declared.status.Status.TheVariants.{Done, Refused, Usage, NotThere, ReadFault, TooLarge}
-use Rattle.hs_em.specs.Plain.{Module}
-use Rattle.hs_em.specs.Spelled.{Spelled}
-use Rattle.hs_em.specs.Scoped.{Scoped}
+use Rattle.hs_first_em.specs.Plain.{Module}
+use Rattle.hs_first_em.specs.Spelled.{Spelled}
+use Rattle.hs_first_em.specs.Scoped.{Scoped}
 use Rattle.hs_fstar.specs.Reads.{Reads}
 use Rattle.hs_fstar.specs.Layout.{layout}
 use Rattle.hs_pipeline.specs.Same.{Same, Shape}

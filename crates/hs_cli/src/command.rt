@@ -4,7 +4,7 @@ ghost use Rattle.std.specs.Prelude.{◌≡◌, ℕ, List, map, string_bytes, opt
 ghost use Rattle.hs_cli.specs.Command.{dialect_of, print_of, command_of};
 ghost use Rattle.hs_cli.specs.Asked.{asked_by};
 
-use hs_em::name::module_name;
+use hs_first_em::name::module_name;
 
 /// The dialects of printed modules.
 #[derive(Clone, Copy, Debug, PartialEq, Eq)]

@@ -1,156 +1,268 @@
 -- Meaning by substitution is evaluation with an environment.
-use Rattle.std.proofs.Common.{◌≡◌, ℕ, zero, suc, ◌<◌, ◌≤◌, max, List, [], ◌∷◌, Option, Some, None, Bool, true, false, cond, eqb, refl, sym, ap, ◌∙◌, arith}
-use Rattle.std.specs.Prelude.{bytes_eq, option_map, slice_get}
+use Rattle.std.proofs.Common.{◌≡◌, ℕ, zero, suc, ◌<◌, ◌≤◌, max, List, [], ◌∷◌, reverse, Option, Some, None, Bool, refl, sym, ap, ◌∙◌, arith}
+use Rattle.std.specs.Prelude.{bytes_eq, if◌then◌else◌}
 use Rattle.std.proofs.Math.Path.{fun_ext}
-use Rattle.std.proofs.lemmas.Bool.{true≢false, eqb-true, eq-eqb, and_parts, and_from}
-use Rattle.std.proofs.lemmas.Slice.Eq.{bytes_eq-Decides}
-use Rattle.hs_first_tree.specs.Value.{Value}
-use Rattle.hs_first_tree.specs.Operation.{applied}
-use Rattle.hs_em.specs.Plain.{EmVar, Em, local, number, op, bind, given, Ems, no_ems, em, EmPar, EmDef, Module}
-use Rattle.hs_em.specs.Environment.{Env, unbound, bound, looked, evaluated, all_evaluated, env_of, evaluated_in, called_in}
-use Rattle.hs_em.specs.Means.{Meaning, stuck, more, and_then, operated, same_var, substituted, all_substituted, height, heights, meanings, meaning_within, meaning, entered, meaning_of, of_type, called, means}
+use Rattle.hs_control.specs.Control.{Val, applied, vals_of, Tuple}
+use Rattle.hs_em.specs.Plain.{Name, Var, Pat, Arm, Em, lets, local, const, ctor, none, truth, unit, lit, build, op, wrap, call, tuple, list, if_else, match_on, bind, fold, Ems, no_ems, em, Cases, no_cases, case, Lets, no_lets, bound, TypeDef, Const, Par, Def, Module}
+use Rattle.hs_em.specs.Match.{vars_of, arm_vars, Env, unbound, only, first_of_two, over, matched, arm_matched}
+use Rattle.hs_em.specs.Steps.{Meaning, gives, Calls, more, and_then, nothing, when, choose, on_control, ended, size, from_to, rounds}
+use Rattle.hs_em.specs.Means.{Held, open_local, given, Term, in_place, place_var, place_held, without, behind, substituted, all_substituted, cases_substituted, lets_substituted, depth, all_depth, cases_depth, lets_depth, all_mean, held, taken_by, chosen, within, meaning, entered, no_calls, consts_of, called, calls_of, def_named, constants, outermost, means}
+use Rattle.hs_em.specs.Environment.{looked, evaluated, all_evaluated, cases_evaluated, lets_evaluated, consts_evaluated, entered_evaluated, calls_evaluated, constants_evaluated, means_evaluated}
+use Rattle.hs_em.proofs.Covers.{Covers, Covered, covers, covers_arm, hidden, hidden_twice, over_unbound}
 
--- a local from its parts
-abbrev mk_var : List ℕ → ℕ → EmVar
-mk_var n k = record { name = n; number = k }
-
--- locals that are printed alike are the same
-pub same_var-true : (x y : EmVar) → same_var x y ≡ true → x ≡ y
-same_var-true x y e =
-    let p : (bytes_eq x.name y.name ≡ true) × (eqb x.number y.number ≡ true) = and_parts (bytes_eq x.name y.name) (eqb x.number y.number) e in
-    ap (λ n. mk_var n x.number) ((bytes_eq-Decides x.name y.name).0 p.0) ∙ ap (mk_var y.name) (eqb-true x.number y.number p.1)
-
--- and a local is printed as itself
-pub same_var-same : (x y : EmVar) → x ≡ y → same_var x y ≡ true
-same_var-same x y e =
-    and_from (bytes_eq x.name y.name) (eqb x.number y.number) ((bytes_eq-Decides x.name y.name).1 (ap (λ z. z.name) e)) (eq-eqb x.number y.number (ap (λ z. z.number) e))
+-- the value at a place where a definition runs
+abbrev look_held : Env → Held → Option Val
+look_held r (open_local x) = r x
+look_held r (given v) = Some v
 
 -- equal meanings go on to equal meanings
-pub then_same : (x y : Meaning) (f g : Value → Meaning) → x ≡ y → ((v : Value) → f v ≡ g v) → and_then x f ≡ and_then y g
+then_same : (x y : Meaning) (f g : Val → Meaning) → x ≡ y → ((v : Val) → f v ≡ g v) → and_then x f ≡ and_then y g
 then_same x y f g e h = ap (λ z. and_then z f) e ∙ ap (and_then y) (fun_ext h)
 
--- a later binding hides an earlier one of the same local
-bound_twice : (r : Env) (x y : EmVar) (v w : Value) → same_var x y ≡ true → bound (bound r x v) y w ≡ bound r y w
-bound_twice r x y v w e = fun_ext (λ z. go z (same_var y z) (same_var x z) refl refl)
+when_same : (xs : List Var) (o : Option Env) (f g : Env → Meaning) → Covered xs o → ((m : Env) → Covers xs m → f m ≡ g m) → when o f ≡ when o g
+when_same xs None f g c h = refl
+when_same xs (Some m) f g c h = h m c
+
+taken_same : (xs : List Var) (o : Option Env) (f g : Env → Meaning) (a b : Meaning) → Covered xs o → ((m : Env) → Covers xs m → f m ≡ g m) → a ≡ b → taken_by o f a ≡ taken_by o g b
+taken_same xs None f g a b c h e = e
+taken_same xs (Some m) f g a b c h e = h m c
+
+choose_same : (v : Val) (a b c d : Meaning) → a ≡ b → c ≡ d → choose v a c ≡ choose v b d
+choose_same v a b c d e h = ap (λ z. choose v z c) e ∙ ap (choose v b) h
+
+module _ (types : List TypeDef) (known : Name → Meaning) (calls : Calls) where
+  module _ {X : Type 0} (put : Env → X → Held) (look : Env → X → Option Val) (agree : (s r : Env) (x : X) → look_held r (put s x) ≡ look (over s r) x) where
+    -- below a pattern
+    under : (p : Pat) (x : Val) (b : Em X) (s r : Env) → ((q : Env) → evaluated look_held types known calls (substituted put (without (vars_of p) s) b) q ≡ evaluated look types known calls b (over (without (vars_of p) s) q)) → when (matched types p x) (λ m. evaluated look_held types known calls (substituted put (without (vars_of p) s) b) (over m r)) ≡ when (matched types p x) (λ m. evaluated look types known calls b (over m (over s r)))
+    under p x b s r h =
+        when_same (vars_of p) (matched types p x) _ _ (covers types p x)
+        (λ m c. h (over m r) ∙ ap (evaluated look types known calls b) (hidden (vars_of p) m s r c))
+
+    -- a turn of a fold
+    turn : (x : Var) (p : Pat) (b : Em X) (s r : Env) (j : ℕ) (y : Val) → ((q : Env) → evaluated look_held types known calls (substituted put (without (vars_of p) (without (x ∷ []) s)) b) q ≡ evaluated look types known calls b (over (without (vars_of p) (without (x ∷ []) s)) q)) → when (matched types p y) (λ m. evaluated look_held types known calls (substituted put (without (vars_of p) (without (x ∷ []) s)) b) (over (over m (only x (size j))) r)) ≡ when (matched types p y) (λ m. evaluated look types known calls b (over (over m (only x (size j))) (over s r)))
+    turn x p b s r j y h =
+        when_same (vars_of p) (matched types p y) _ _ (covers types p y)
+        (λ m c. h (over (over m (only x (size j))) r)
+        ∙ ap (evaluated look types known calls b) (hidden_twice (vars_of p) x (size j) m s r c))
+
+    mutual
+      -- a value in the place of a local is the local in an environment that has the value
+      pub put_in : (e : Em X) (s r : Env) → evaluated look_held types known calls (substituted put s e) r ≡ evaluated look types known calls e (over s r)
+      put_in (lets ls e) s r =
+          lets_in ls s r (evaluated look_held types known calls (substituted put (behind ls s) e)) (evaluated look types known calls e)
+          (put_in e (behind ls s))
+      put_in (local x) s r = ap (λ o. when o (λ v. gives v 0)) (agree s r x)
+      put_in (const name) s r = refl
+      put_in (ctor t name) s r = refl
+      put_in none s r = refl
+      put_in (truth b) s r = refl
+      put_in unit s r = refl
+      put_in (lit n) s r = refl
+      put_in (build t name es) s r = all_in es s r _
+      put_in (op name es) s r = all_in es s r _
+      put_in (wrap w e) s r = then_same _ _ _ _ (put_in e s r) (λ v. refl)
+      put_in (call name es) s r = all_in es s r (calls name)
+      put_in (tuple es) s r = all_in es s r _
+      put_in (list es) s r = all_in es s r _
+      put_in (if_else a b c) s r = then_same _ _ _ _ (put_in a s r) (λ v. choose_same v _ _ _ _ (put_in b s r) (put_in c s r))
+      put_in (match_on e cs) s r = then_same _ _ _ _ (put_in e s r) (cases_in cs s r)
+      put_in (bind z e p b) s r =
+          then_same _ _ _ _ (put_in e s r)
+          (λ v. ap (on_control v (λ x. gives (ended z x) 0)) (fun_ext (λ x. under p x b s r (put_in b (without (vars_of p) s)))))
+      put_in (fold how low high first x p b) s r =
+          then_same _ _ _ _ (put_in low s r) (λ u. then_same _ _ _ _ (put_in high s r) (λ w. then_same _ _ _ _ (put_in first s r) (λ v.
+          ap (λ (f : ℕ → Val → Meaning). from_to u w (λ i n. rounds how f i n v))
+          (fun_ext (λ j. fun_ext (λ y. turn x p b s r j y (put_in b (without (vars_of p) (without (x ∷ []) s)))))))))
+
+      all_in : (es : Ems X) (s r : Env) (f : List Val → Meaning) → all_evaluated look_held types known calls (all_substituted put s es) r f ≡ all_evaluated look types known calls es (over s r) f
+      all_in no_ems s r f = refl
+      all_in (em e es) s r f = then_same _ _ _ _ (put_in e s r) (λ v. all_in es s r (λ vs. f (v ∷ vs)))
+
+      cases_in : (cs : Cases X) (s r : Env) (v : Val) → cases_evaluated look_held types known calls (cases_substituted put s cs) r v ≡ cases_evaluated look types known calls cs (over s r) v
+      cases_in no_cases s r v = refl
+      cases_in (case a e cs) s r v =
+          taken_same (arm_vars a) (arm_matched types a v) _ _ _ _ (covers_arm types a v)
+          (λ m c. put_in e (without (arm_vars a) s) (over m r) ∙ ap (evaluated look types known calls e) (hidden (arm_vars a) m s r c))
+          (cases_in cs s r v)
+
+      lets_in : (ls : Lets X) (s r : Env) (f g : Env → Meaning) → ((q : Env) → f q ≡ g (over (behind ls s) q)) → lets_evaluated look_held types known calls (lets_substituted put s ls) r f ≡ lets_evaluated look types known calls ls (over s r) g
+      lets_in no_lets s r f g h = h r
+      lets_in (bound p a ls) s r f g h =
+          then_same _ _ _ _ (put_in a s r) (λ v. when_same (vars_of p) (matched types p v) _ _ (covers types p v)
+          (λ m c. lets_in ls (without (vars_of p) s) (over m r) f g h
+          ∙ ap (λ q. lets_evaluated look types known calls ls q g) (hidden (vars_of p) m s r c)))
+
+-- a value in the place of a local changes no depth
+module _ {X : Type 0} (put : Env → X → Held) where
+  mutual
+    pub depth_in : (e : Em X) (s : Env) → depth (substituted put s e) ≡ depth e
+    depth_in (lets ls e) s =
+        ap (λ n. suc (lets_depth (lets_substituted put s ls) n)) (depth_in e (behind ls s)) ∙ ap suc (lets_depth_in ls s (depth e))
+    depth_in (local x) s = refl
+    depth_in (const name) s = refl
+    depth_in (ctor t name) s = refl
+    depth_in none s = refl
+    depth_in (truth b) s = refl
+    depth_in unit s = refl
+    depth_in (lit n) s = refl
+    depth_in (build t name es) s = ap suc (all_depth_in es s)
+    depth_in (op name es) s = ap suc (all_depth_in es s)
+    depth_in (wrap w e) s = ap suc (depth_in e s)
+    depth_in (call name es) s = ap suc (all_depth_in es s)
+    depth_in (tuple es) s = ap suc (all_depth_in es s)
+    depth_in (list es) s = ap suc (all_depth_in es s)
+    depth_in (if_else a b c) s =
+        ap (λ n. suc (max n (max (depth (substituted put s b)) (depth (substituted put s c))))) (depth_in a s)
+        ∙ ap (λ n. suc (max (depth a) (max n (depth (substituted put s c))))) (depth_in b s)
+        ∙ ap (λ n. suc (max (depth a) (max (depth b) n))) (depth_in c s)
+    depth_in (match_on e cs) s =
+        ap (λ n. suc (max n (cases_depth (cases_substituted put s cs)))) (depth_in e s) ∙ ap (λ n. suc (max (depth e) n)) (cases_depth_in cs s)
+    depth_in (bind z e p b) s =
+        ap (λ n. suc (max n (depth (substituted put (without (vars_of p) s) b)))) (depth_in e s)
+        ∙ ap (λ n. suc (max (depth e) n)) (depth_in b (without (vars_of p) s))
+    depth_in (fold how low high first x p b) s =
+        ap (λ n. suc (max n (max (depth (substituted put s high)) (max (depth (substituted put s first)) (depth (substituted put (without (vars_of p) (without (x ∷ []) s)) b)))))) (depth_in low s)
+        ∙ ap (λ n. suc (max (depth low) (max n (max (depth (substituted put s first)) (depth (substituted put (without (vars_of p) (without (x ∷ []) s)) b)))))) (depth_in high s)
+        ∙ ap (λ n. suc (max (depth low) (max (depth high) (max n (depth (substituted put (without (vars_of p) (without (x ∷ []) s)) b)))))) (depth_in first s)
+        ∙ ap (λ n. suc (max (depth low) (max (depth high) (max (depth first) n)))) (depth_in b (without (vars_of p) (without (x ∷ []) s)))
+
+    all_depth_in : (es : Ems X) (s : Env) → all_depth (all_substituted put s es) ≡ all_depth es
+    all_depth_in no_ems s = refl
+    all_depth_in (em e es) s = ap (λ n. max n (all_depth (all_substituted put s es))) (depth_in e s) ∙ ap (max (depth e)) (all_depth_in es s)
+
+    cases_depth_in : (cs : Cases X) (s : Env) → cases_depth (cases_substituted put s cs) ≡ cases_depth cs
+    cases_depth_in no_cases s = refl
+    cases_depth_in (case a e cs) s =
+        ap (λ n. max n (cases_depth (cases_substituted put s cs))) (depth_in e (without (arm_vars a) s)) ∙ ap (max (depth e)) (cases_depth_in cs s)
+
+    lets_depth_in : (ls : Lets X) (s : Env) (n : ℕ) → lets_depth (lets_substituted put s ls) n ≡ lets_depth ls n
+    lets_depth_in no_lets s n = refl
+    lets_depth_in (bound p a ls) s n =
+        ap (λ k. suc (max k (lets_depth (lets_substituted put (without (vars_of p) s) ls) n))) (depth_in a s)
+        ∙ ap (λ k. suc (max (depth a) k)) (lets_depth_in ls (without (vars_of p) s) n)
+
+-- a place is looked up as its local is, or has its value
+agree_held : (s r : Env) (x : Held) → look_held r (place_held s x) ≡ look_held (over s r) x
+agree_held s r (open_local x) = go (s x)
   where
-    go : (z : EmVar) (a b : Bool) → same_var y z ≡ a → same_var x z ≡ b → cond a (Some w) (cond b (Some v) (r z)) ≡ cond a (Some w) (r z)
-    go z true b d f = refl
-    go z false true d f = absurd (true≢false (sym (same_var-same y z (sym (same_var-true x y e) ∙ same_var-true x z f)) ∙ d))
-    go z false false d f = refl
+    go : (o : Option Val) → look_held r (in_place o x) ≡ first_of_two o (r x)
+    go None = refl
+    go (Some v) = refl
+agree_held s r (given v) = refl
 
--- bindings of two locals change their order
-bound_swap : (r : Env) (x y : EmVar) (v w : Value) → same_var x y ≡ false → bound (bound r y w) x v ≡ bound (bound r x v) y w
-bound_swap r x y v w e = fun_ext (λ z. go z (same_var y z) (same_var x z) refl refl)
+agree_var : (s r : Env) (x : Var) → look_held r (place_var s x) ≡ looked (over s r) x
+agree_var s r x = agree_held s r (open_local x)
+
+-- a term has a depth
+depth_some : (e : Term) → 0 < depth e
+depth_some (lets ls e) = omega arith
+depth_some (local x) = omega arith
+depth_some (const name) = omega arith
+depth_some (ctor t name) = omega arith
+depth_some none = omega arith
+depth_some (truth b) = omega arith
+depth_some unit = omega arith
+depth_some (lit n) = omega arith
+depth_some (build t name es) = omega arith
+depth_some (op name es) = omega arith
+depth_some (wrap w e) = omega arith
+depth_some (call name es) = omega arith
+depth_some (tuple es) = omega arith
+depth_some (list es) = omega arith
+depth_some (if_else a b c) = omega arith
+depth_some (match_on e cs) = omega arith
+depth_some (bind z e p b) = omega arith
+depth_some (fold how low high first x p b) = omega arith
+
+module _ (types : List TypeDef) (known : Name → Meaning) (calls : Calls) where
+  -- operands, where their own meanings are so
+  all_env : (m : Term → Meaning) (k : ℕ) → ((e : Term) → depth e ≤ k → m e ≡ evaluated look_held types known calls e unbound) → (es : Ems Held) → all_depth es ≤ k → (f : List Val → Meaning) → all_mean m es f ≡ all_evaluated look_held types known calls es unbound f
+  all_env m k h no_ems l f = refl
+  all_env m k h (em e es) l f = then_same _ _ _ _ (h e (omega arith)) (λ v. all_env m k h es (omega arith) (λ vs. f (v ∷ vs)))
+
+  cases_env : (m : Env → Term → Meaning) (k : ℕ) → ((s : Env) (e : Term) → depth e ≤ k → m s e ≡ evaluated look_held types known calls e (over s unbound)) → (cs : Cases Held) → cases_depth cs ≤ k → (v : Val) → chosen types m cs v ≡ cases_evaluated look_held types known calls cs unbound v
+  cases_env m k h no_cases l v = refl
+  cases_env m k h (case a e cs) l v =
+      taken_same (arm_vars a) (arm_matched types a v) _ _ _ _ (covers_arm types a v) (λ s c. h s e (omega arith)) (cases_env m k h cs (omega arith) v)
+
+  held_env : (x : Held) → held x ≡ when (look_held unbound x) (λ v. gives v 0)
+  held_env (open_local x) = refl
+  held_env (given v) = refl
+
+  -- a term with values in it, where the meanings of terms of its depth are so
+  placed : (k : ℕ) → ((e : Term) → depth e ≤ k → within types known calls k e ≡ evaluated look_held types known calls e unbound) → (b : Term) → depth b ≤ k → (m : Env) → within types known calls k (substituted place_held m b) ≡ evaluated look_held types known calls b (over m unbound)
+  placed k h b l m =
+      h (substituted place_held m b) (omega (arith, depth_in place_held b m))
+      ∙ put_in types known calls place_held look_held agree_held b m unbound
+
+  -- the meaning of a term, within any bound of its depth, is its evaluation where no local has a value
+  pub within_env : (k : ℕ) (e : Term) → depth e ≤ k → within types known calls k e ≡ evaluated look_held types known calls e unbound
+  within_env zero e l = let p : 0 < depth e = depth_some e in absurd (omega arith)
+  within_env (suc k) (lets no_lets e) l = within_env k e (omega arith)
+  within_env (suc k) (lets (bound p a ls) e) l =
+      then_same _ _ _ _ (within_env k a (omega arith)) (λ v. when_same (vars_of p) (matched types p v) _ _ (covers types p v)
+      (λ m c. placed k (within_env k) (lets ls e) (omega arith) m))
+  within_env (suc k) (local x) l = held_env x
+  within_env (suc k) (const name) l = refl
+  within_env (suc k) (ctor t name) l = refl
+  within_env (suc k) none l = refl
+  within_env (suc k) (truth b) l = refl
+  within_env (suc k) unit l = refl
+  within_env (suc k) (lit n) l = refl
+  within_env (suc k) (build t name es) l = all_env (within types known calls k) k (within_env k) es (omega arith) _
+  within_env (suc k) (op name es) l = all_env (within types known calls k) k (within_env k) es (omega arith) _
+  within_env (suc k) (wrap w e) l = then_same _ _ _ _ (within_env k e (omega arith)) (λ v. refl)
+  within_env (suc k) (call name es) l = all_env (within types known calls k) k (within_env k) es (omega arith) _
+  within_env (suc k) (tuple es) l = all_env (within types known calls k) k (within_env k) es (omega arith) _
+  within_env (suc k) (list es) l = all_env (within types known calls k) k (within_env k) es (omega arith) _
+  within_env (suc k) (if_else a b c) l =
+      then_same _ _ _ _ (within_env k a (omega arith)) (λ v. choose_same v _ _ _ _ (within_env k b (omega arith)) (within_env k c (omega arith)))
+  within_env (suc k) (match_on e cs) l =
+      then_same _ _ _ _ (within_env k e (omega arith)) (cases_env (λ s b. within types known calls k (substituted place_held s b)) k
+      (λ m b h. placed k (within_env k) b h m) cs (omega arith))
+  within_env (suc k) (bind z e p b) l =
+      then_same _ _ _ _ (within_env k e (omega arith)) (λ v. ap (on_control v (λ x. gives (ended z x) 0)) (fun_ext (λ x.
+      when_same (vars_of p) (matched types p x) _ _ (covers types p x) (λ m c. placed k (within_env k) b (omega arith) m))))
+  within_env (suc k) (fold how low high first x p b) l =
+      then_same _ _ _ _ (within_env k low (omega arith)) (λ u. then_same _ _ _ _ (within_env k high (omega arith)) (λ w. then_same _ _ _ _ (within_env k first (omega arith)) (λ v.
+      ap (λ (f : ℕ → Val → Meaning). from_to u w (λ i n. rounds how f i n v)) (fun_ext (λ j. fun_ext (λ y.
+      when_same (vars_of p) (matched types p y) _ _ (covers types p y) (λ m c. placed k (within_env k) b (omega arith) (over m (only x (size j))))))))))
+
+-- a body with values in it is the body in their environment
+body_env : (types : List TypeDef) (known : Name → Meaning) (calls : Calls) (e : Em Var) (s : Env) → meaning types known calls (substituted place_var s e) ≡ evaluated looked types known calls e s
+body_env types known calls e s =
+    within_env types known calls (depth (substituted place_var s e)) (substituted place_var s e) (omega arith)
+    ∙ put_in types known calls place_var looked agree_var e s unbound
+    ∙ ap (evaluated looked types known calls e) (over_unbound s)
+
+if_same : (b : Bool) (x y z w : Meaning) → x ≡ y → z ≡ w → (if b then x else z) ≡ (if b then y else w)
+if_same b x y z w e h = ap (λ q. if b then q else z) e ∙ ap (λ q. if b then y else q) h
+
+-- constants
+consts_env : (types : List TypeDef) (cs : List Const) → consts_of types cs ≡ consts_evaluated types cs
+consts_env types [] = refl
+consts_env types (c ∷ cs) = fun_ext (λ name. if_same (bytes_eq c.name name) _ _ _ _
+    (body_env types (consts_of types cs) no_calls c.body unbound ∙ ap (λ k. evaluated looked types k no_calls c.body unbound) (consts_env types cs))
+    (ap (λ (k : Name → Meaning). k name) (consts_env types cs)))
+
+-- a call
+called_env : (types : List TypeDef) (known : Name → Meaning) (calls : Calls) (d : Def) (vs : List Val) → called types known calls d vs ≡ entered_evaluated types known calls d vs
+called_env types known calls d vs = ap (more 1) (go (entered d.params vs))
   where
-    go : (z : EmVar) (a b : Bool) → same_var y z ≡ a → same_var x z ≡ b → cond b (Some v) (cond a (Some w) (r z)) ≡ cond a (Some w) (cond b (Some v) (r z))
-    go z true true d f = absurd (true≢false (sym (same_var-same x y (same_var-true x z f ∙ sym (same_var-true y z d))) ∙ e))
-    go z true false d f = refl
-    go z false true d f = refl
-    go z false false d f = refl
+    go : (o : Option Env) → when o (λ s. meaning types known calls (substituted place_var s d.body)) ≡ when o (evaluated looked types known calls d.body)
+    go None = refl
+    go (Some s) = body_env types known calls d.body s
 
--- below a `let`
-under : (b : Em) (r : Env) (x y : EmVar) (v : Value) → ((r : Env) → evaluated (substituted x v b) r ≡ evaluated b (bound r x v)) → (w : Value) → evaluated (cond (same_var x y) b (substituted x v b)) (bound r y w) ≡ evaluated b (bound (bound r x v) y w)
-under b r x y v h w = go (same_var x y) refl
-  where
-    go : (q : Bool) → same_var x y ≡ q → evaluated (cond q b (substituted x v b)) (bound r y w) ≡ evaluated b (bound (bound r x v) y w)
-    go true d = ap (evaluated b) (sym (bound_twice r x y v w d))
-    go false d = h (bound r y w) ∙ ap (evaluated b) (bound_swap r x y v w d)
-
-mutual
-  -- a value in the place of a local is the local bound to the value
-  pub evaluated-substituted : (e : Em) (x : EmVar) (v : Value) (r : Env) → evaluated (substituted x v e) r ≡ evaluated e (bound r x v)
-  evaluated-substituted (local y) x v r = go (same_var x y)
-    where
-      go : (q : Bool) → evaluated (cond q (given v) (local y)) r ≡ looked (cond q (Some v) (r y))
-      go true = refl
-      go false = refl
-  evaluated-substituted (number n) x v r = refl
-  evaluated-substituted (op w es) x v r = all_evaluated-substituted es x v r (λ vs. operated (applied w vs))
-  evaluated-substituted (bind y a b) x v r = then_same _ _ _ _ (evaluated-substituted a x v r) (under b r x y v (evaluated-substituted b x v))
-  evaluated-substituted (given w) x v r = refl
-
-  pub all_evaluated-substituted : (es : Ems) (x : EmVar) (v : Value) (r : Env) (f : List Value → Meaning) → all_evaluated (all_substituted x v es) r f ≡ all_evaluated es (bound r x v) f
-  all_evaluated-substituted no_ems x v r f = refl
-  all_evaluated-substituted (em e es) x v r f = then_same _ _ _ _ (evaluated-substituted e x v r) (λ u. all_evaluated-substituted es x v r (λ vs. f (u ∷ vs)))
-
-mutual
-  -- a value in the place of a local changes no height
-  pub height-substituted : (e : Em) (x : EmVar) (v : Value) → height (substituted x v e) ≡ height e
-  height-substituted (local y) x v = go (same_var x y)
-    where
-      go : (q : Bool) → height (cond q (given v) (local y)) ≡ 1
-      go true = refl
-      go false = refl
-  height-substituted (number n) x v = refl
-  height-substituted (op w es) x v = ap suc (heights-substituted es x v)
-  height-substituted (bind y a b) x v =
-      ap (λ n. suc (max n (height (cond (same_var x y) b (substituted x v b))))) (height-substituted a x v)
-      ∙ ap (λ n. suc (max (height a) n)) (go (same_var x y) b (height-substituted b x v))
-    where
-      go : (q : Bool) (b : Em) → height (substituted x v b) ≡ height b → height (cond q b (substituted x v b)) ≡ height b
-      go true b h = refl
-      go false b h = h
-  height-substituted (given w) x v = refl
-
-  pub heights-substituted : (es : Ems) (x : EmVar) (v : Value) → heights (all_substituted x v es) ≡ heights es
-  heights-substituted no_ems x v = refl
-  heights-substituted (em e es) x v =
-      ap (λ n. max n (heights (all_substituted x v es))) (height-substituted e x v) ∙ ap (max (height e)) (heights-substituted es x v)
-
--- an expression has a height
-height_some : (e : Em) → 0 < height e
-height_some (local x) = omega arith
-height_some (number n) = omega arith
-height_some (op w es) = omega arith
-height_some (bind x a b) = omega arith
-height_some (given v) = omega arith
-
--- operands, where their own meanings are so
-operands_env : (m : Em → Meaning) (k : ℕ) → ((e : Em) → height e ≤ k → m e ≡ evaluated e unbound) → (es : Ems) → heights es ≤ k → (f : List Value → Meaning) → meanings m es f ≡ all_evaluated es unbound f
-operands_env m k h no_ems l f = refl
-operands_env m k h (em e es) l f = then_same _ _ _ _ (h e (omega arith)) (λ v. operands_env m k h es (omega arith) (λ vs. f (v ∷ vs)))
-
--- the meaning of an expression, within any bound of its height, is its evaluation where no local has a value
-pub meaning_within_env : (k : ℕ) (e : Em) → height e ≤ k → meaning_within k e ≡ evaluated e unbound
-meaning_within_env zero e l = let p : 0 < height e = height_some e in absurd (omega arith)
-meaning_within_env (suc k) (local x) l = refl
-meaning_within_env (suc k) (number n) l = refl
-meaning_within_env (suc k) (op w es) l = operands_env (meaning_within k) k (meaning_within_env k) es (omega arith) (λ vs. operated (applied w vs))
-meaning_within_env (suc k) (bind x a b) l =
-    then_same _ _ _ _ (meaning_within_env k a (omega arith))
-    (λ v. meaning_within_env k (substituted x v b) (omega (arith, height-substituted b x v)) ∙ evaluated-substituted b x v unbound)
-meaning_within_env (suc k) (given v) l = refl
-
--- within its own height
-pub meaning_env : (e : Em) → meaning e ≡ evaluated e unbound
-meaning_env e = meaning_within_env (height e) e (omega arith)
-
--- the body with the arguments in it is the body in their environment
-pub entered_env : (ps : List EmPar) (vs : List Value) (e : Em) → meaning_of (entered ps vs e) ≡ evaluated_in e (env_of ps vs)
-entered_env ps vs e = closed (entered ps vs e) ∙ go ps vs e
-  where
-    at_once : Option Em → Meaning
-    at_once None = stuck 0
-    at_once (Some e) = evaluated e unbound
-
-    closed : (x : Option Em) → meaning_of x ≡ at_once x
-    closed None = refl
-    closed (Some e) = meaning_env e
-
-    last : (e : Em) (x : EmVar) (v : Value) (q : Option Env) → evaluated_in (substituted x v e) q ≡ evaluated_in e (option_map (λ r. bound r x v) q)
-    last e x v None = refl
-    last e x v (Some r) = evaluated-substituted e x v r
-
-    go : (ps : List EmPar) (vs : List Value) (e : Em) → at_once (entered ps vs e) ≡ evaluated_in e (env_of ps vs)
-    go [] [] e = refl
-    go [] (v ∷ vs) e = refl
-    go (p ∷ ps) [] e = refl
-    go (p ∷ ps) (v ∷ vs) e = go ps vs (substituted p.var v e) ∙ last e p.var v (env_of ps vs)
+-- calls
+calls_env : (types : List TypeDef) (known : Name → Meaning) (ds : List Def) → calls_of types known ds ≡ calls_evaluated types known ds
+calls_env types known [] = refl
+calls_env types known (d ∷ ds) = fun_ext (λ name. fun_ext (λ vs. if_same (bytes_eq d.name name) _ _ _ _
+    (called_env types known (calls_of types known ds) d vs ∙ ap (λ (c : Calls). entered_evaluated types known c d vs) (calls_env types known ds))
+    (ap (λ (c : Calls). c name vs) (calls_env types known ds))))
 
 -- THE BRIDGE: what a module means needs no substitution
-pub means_env : (m : Module) (i : ℕ) (vs : List Value) → means m i vs ≡ called_in (slice_get m.defs i) vs
-means_env m i vs = go (slice_get m.defs i)
-  where
-    go : (d : Option EmDef) → called d vs ≡ called_in d vs
-    go None = refl
-    go (Some d) = ap (λ x. of_type d.returns (more 1 x)) (entered_env d.params vs d.body)
+pub means_env : (m : Module) (name : Name) (vs : List Val) → means m name vs ≡ means_evaluated m name vs
+means_env m name vs =
+    ap (λ (c : Calls). outermost m (def_named m.defs name) (c name vs)) (calls_env m.types (constants m) (reverse m.defs))
+    ∙ ap (λ (k : Name → Meaning). outermost m (def_named m.defs name) (calls_evaluated m.types k (reverse m.defs) name vs))
+    (consts_env m.types (reverse m.consts))

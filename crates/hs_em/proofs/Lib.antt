@@ -1,4 +1,4 @@
-pub mod Bytes
-pub mod Environment
-pub mod Ends
-pub mod Rows
+mod Covers
+mod Environment
+mod Told
+mod Rows

@@ -1,7 +1,11 @@
 pub mod Plain
 pub mod Of
-pub mod Spelled
+pub mod Printed
+pub mod Headers
+pub mod Match
+pub mod Steps
 pub mod Means
 pub mod Environment
+pub mod Spelled
 pub mod Scoped
-pub mod Ended
+pub mod Samples

@@ -6,8 +6,8 @@ use Rattle.std.proofs.lemmas.Fmt.{decimal_injective}
 use Rattle.hs_first_tree.specs.Value.{ValType, U32}
 use Rattle.hs_base.specs.Names.{is_digit}
 use Rattle.std.specs.List.{list_all}
-use Rattle.hs_em.specs.Plain.{EmVar, Em, local, number, op, bind, given, Ems, no_ems, em, EmPar, EmDef, Module}
-use Rattle.hs_em.specs.Spelled.{SpelledVar, SpelledEm, SpelledEms, SpelledPars, SpelledDefs}
+use Rattle.hs_first_em.specs.Plain.{EmVar, Em, local, number, op, bind, given, Ems, no_ems, em, EmPar, EmDef, Module}
+use Rattle.hs_first_em.specs.Spelled.{SpelledVar, SpelledEm, SpelledEms, SpelledPars, SpelledDefs}
 use Rattle.hs_fstar.specs.Tokens.{Token, Word, Mark}
 use Rattle.hs_fstar.specs.Reads.{var_text, type_text, em_tokens, ems_tokens, par_tokens, pars_tokens, def_tokens, module_tokens, Reads}
 use Rattle.hs_fstar.proofs.Printed.{decimal_digits}

@@ -1,7 +1,7 @@
 -- The pieces of a printed text.
 use Rattle.std.proofs.Common.{◌≡◌, ℕ, zero, suc, ◌+◌, List, [], ◌∷◌, ◌++◌, Bool, true, false, codes, refl, sym, ap, ◌∙◌, arith, append_assoc}
-use Rattle.hs_em.specs.Plain.{EmVar, Em, bind}
-use Rattle.hs_em.specs.Spelled.{is_let}
+use Rattle.hs_first_em.specs.Plain.{EmVar, Em, bind}
+use Rattle.hs_first_em.specs.Spelled.{is_let}
 use Rattle.hs_fstar.specs.Reads.{var_text}
 use Rattle.hs_fstar.specs.Layout.{spaces, bound_text, em_text}
 use Rattle.hs_fstar.specs.Lines.{indent_of_bound, gap, let_text, in_text}

@@ -8,8 +8,8 @@ use Rattle.hs_first_tree.specs.Value.{ValType, U32}
 use Rattle.hs_base.specs.Names.{is_upper, is_letter, is_digit, begins_name, is_word_byte, is_reserved, is_name}
 use Rattle.hs_fstar.specs.Bytes.{begins_word}
 use Rattle.std.specs.List.{list_all}
-use Rattle.hs_em.specs.Plain.{EmVar, Em, local, number, op, bind, given, Ems, no_ems, em, EmPar, EmDef, Module}
-use Rattle.hs_em.specs.Spelled.{is_module_name, is_let, SpelledVar, SpelledEm, SpelledEms, SpelledPars, SpelledDefs, Spelled, begins_upper}
+use Rattle.hs_first_em.specs.Plain.{EmVar, Em, local, number, op, bind, given, Ems, no_ems, em, EmPar, EmDef, Module}
+use Rattle.hs_first_em.specs.Spelled.{is_module_name, is_let, SpelledVar, SpelledEm, SpelledEms, SpelledPars, SpelledDefs, Spelled, begins_upper}
 use Rattle.hs_fstar.specs.Tokens.{Token, Word, Mark, Outside, begins, with_word, tokens_from}
 use Rattle.hs_fstar.specs.Reads.{var_text, type_text, em_tokens, ems_tokens, par_tokens, pars_tokens, def_tokens, Reads}
 use Rattle.hs_fstar.specs.Layout.{spaces, bound_text, em_text, ems_text, par_text, pars_text, def_text, layout}

@@ -3,7 +3,7 @@ use Rattle.std.proofs.Common.{◌≡◌, ℕ, List, [], ◌∷◌, ◌++◌, Som
 use Rattle.std.specs.Fmt.{digits}
 use Rattle.hs_base.specs.Names.{is_upper, is_letter, is_digit, begins_name, is_word_byte}
 use Rattle.hs_first_tree.specs.Value.{U32}
-use Rattle.hs_em.specs.Plain.{EmVar, Em, local, number, op, bind, no_ems, em, EmPar, EmDef, Module}
+use Rattle.hs_first_em.specs.Plain.{EmVar, Em, local, number, op, bind, no_ems, em, EmPar, EmDef, Module}
 use Rattle.hs_fstar.specs.Tokens.{Word, tokens_of}
 use Rattle.hs_fstar.specs.Reads.{module_tokens}
 use Rattle.hs_fstar.specs.Layout.{layout, em_text}

@@ -1,7 +1,7 @@
 -- The one printed text of a module.
 use Rattle.std.specs.Prelude.{ℕ, zero, suc, ◌+◌, Bool, true, false, List, [], ◌∷◌, ◌++◌, flat_map, codes, decimal}
-use Rattle.hs_em.specs.Plain.{Em, local, number, op, bind, given, Ems, no_ems, em, EmPar, EmDef, Module}
-use Rattle.hs_em.specs.Spelled.{is_let}
+use Rattle.hs_first_em.specs.Plain.{Em, local, number, op, bind, given, Ems, no_ems, em, EmPar, EmDef, Module}
+use Rattle.hs_first_em.specs.Spelled.{is_let}
 use Rattle.hs_fstar.specs.Reads.{var_text, type_text}
 
 -- an indent

@@ -1,6 +1,6 @@
 -- The pieces of a `let`'s text round what its local is bound to.
 use Rattle.std.specs.Prelude.{ℕ, ◌+◌, Bool, true, false, List, ◌∷◌, ◌++◌, codes}
-use Rattle.hs_em.specs.Plain.{EmVar}
+use Rattle.hs_first_em.specs.Plain.{EmVar}
 use Rattle.hs_fstar.specs.Reads.{var_text}
 use Rattle.hs_fstar.specs.Layout.{spaces}
 

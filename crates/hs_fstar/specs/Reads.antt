@@ -1,8 +1,8 @@
 -- The emitted grammar: the tokens of each form of a module, one case for each alternative, and which text is which module.
 use Rattle.std.specs.Prelude.{◌≡◌, ℕ, List, [], ◌∷◌, ◌++◌, flat_map, codes, decimal, Some}
 use Rattle.hs_first_tree.specs.Value.{ValType, U32}
-use Rattle.hs_em.specs.Plain.{EmVar, Em, local, number, op, bind, given, Ems, no_ems, em, EmPar, EmDef, Module}
-use Rattle.hs_em.specs.Spelled.{Spelled}
+use Rattle.hs_first_em.specs.Plain.{EmVar, Em, local, number, op, bind, given, Ems, no_ems, em, EmPar, EmDef, Module}
+use Rattle.hs_first_em.specs.Spelled.{Spelled}
 use Rattle.hs_fstar.specs.Tokens.{Token, Word, Mark, tokens_of}
 
 -- a local as it is printed

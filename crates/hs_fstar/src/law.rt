@@ -1,8 +1,8 @@
 //! Laws of printed texts. The functions here do nothing: a caller has their clauses.
 
 ghost use Rattle.std.specs.Prelude.{◌≡◌, ℕ, List};
-ghost use Rattle.hs_em.specs.Plain as em;
-ghost use Rattle.hs_em.specs.Spelled.{Spelled};
+ghost use Rattle.hs_first_em.specs.Plain as em;
+ghost use Rattle.hs_first_em.specs.Spelled.{Spelled};
 ghost use Rattle.hs_fstar.specs.Layout.{layout};
 ghost use Rattle.hs_fstar.specs.Reads.{Reads};
 

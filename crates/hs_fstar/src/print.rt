@@ -1,15 +1,15 @@
 //! Writes a module as text.
 
 ghost use Rattle.std.specs.Prelude.{◌≡◌, ◌++◌, ◌∷◌, map, flat_map, OnOk, IfOk};
-ghost use Rattle.hs_em.specs.Plain as em;
-ghost use Rattle.hs_em.specs.Of.{ems_of, em_of, var_of, type_of, par_of, def_of, module_of};
-ghost use Rattle.hs_em.specs.Spelled.{is_let};
+ghost use Rattle.hs_first_em.specs.Plain as em;
+ghost use Rattle.hs_first_em.specs.Of.{ems_of, em_of, var_of, type_of, par_of, def_of, module_of};
+ghost use Rattle.hs_first_em.specs.Spelled.{is_let};
 ghost use Rattle.hs_fstar.specs.Reads.{var_text, type_text};
 ghost use Rattle.hs_fstar.specs.Layout.{spaces, em_text, ems_text, par_text, pars_text, def_text, layout};
 ghost use Rattle.hs_fstar.specs.Lines.{indent_of_bound, gap, let_text, in_text};
 
 use hs_base::memory::NoMemory;
-use hs_em::module::{Em, EmDef, EmPar, EmTy, EmVar, Module};
+use hs_first_em::module::{Em, EmDef, EmPar, EmTy, EmVar, Module};
 use std::alloc::Global;
 
 // A local: its name and its number.

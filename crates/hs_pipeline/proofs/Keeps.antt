@@ -9,10 +9,10 @@ use Rattle.hs_first_tree.specs.Operation.{row_types}
 use Rattle.hs_first_tree.specs.Plain as tree
 use Rattle.hs_base.specs.Names.{is_name}
 use Rattle.hs_first_tree.specs.Sound.{ScopedExp, ScopedExps, ScopedRhs, ScopedStmts, ScopedBlock, TypedExp, TypedExps, TypedRhs, TypedStmts, TypedBlock, SoundFunction}
-use Rattle.hs_em.specs.Plain.{EmVar, Em, local, number, op, bind, given, Ems, no_ems, em, EmPar, EmDef}
-use Rattle.hs_em.specs.Spelled.{is_module_name, is_let, SpelledVar, SpelledEm, SpelledEms, SpelledPars, SpelledDefs, Spelled}
-use Rattle.hs_em.specs.Means.{same_var}
-use Rattle.hs_em.specs.Scoped.{has_var, DistinctVars, count, ScopedEm, ScopedEms, vars_of, ScopedDefs, Scoped}
+use Rattle.hs_first_em.specs.Plain.{EmVar, Em, local, number, op, bind, given, Ems, no_ems, em, EmPar, EmDef}
+use Rattle.hs_first_em.specs.Spelled.{is_module_name, is_let, SpelledVar, SpelledEm, SpelledEms, SpelledPars, SpelledDefs, Spelled}
+use Rattle.hs_first_em.specs.Means.{same_var}
+use Rattle.hs_first_em.specs.Scoped.{has_var, DistinctVars, count, ScopedEm, ScopedEms, vars_of, ScopedDefs, Scoped}
 use Rattle.hs_pipeline.specs.Lower.{lowered_var, lowered_exp, lowered_exps, lowered_rhs, lowered_stmts, lowered_block, lowered_param, lowered_function, lowered}
 use Rattle.hs_pipeline.specs.Same.{Shape}
 use Rattle.hs_pipeline.specs.Counted.{Numbered}

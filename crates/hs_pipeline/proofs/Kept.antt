@@ -9,13 +9,13 @@ use Rattle.hs_first_tree.specs.Sound.{Sound}
 use Rattle.hs_first_tree.specs.Call as call
 use Rattle.hs_first_tree.specs.Call.{Calls, SameResults, Header, header_of}
 use Rattle.hs_first_tree.specs.Compute.{run_call, Ended}
-use Rattle.hs_em.specs.Plain.{EmDef, EmPar, Module}
-use Rattle.hs_em.specs.Spelled.{is_module_name, Spelled}
-use Rattle.hs_em.specs.Scoped.{Scoped}
-use Rattle.hs_em.specs.Means.{means}
+use Rattle.hs_first_em.specs.Plain.{EmDef, EmPar, Module}
+use Rattle.hs_first_em.specs.Spelled.{is_module_name, Spelled}
+use Rattle.hs_first_em.specs.Scoped.{Scoped}
+use Rattle.hs_first_em.specs.Means.{means}
 use Rattle.hs_pipeline.specs.Lower.{lowered_function, lowered}
 use Rattle.hs_pipeline.specs.Same.{types_of, Shape, Same}
-use Rattle.hs_em.specs.Ended as Ends
+use Rattle.hs_first_em.specs.Ended as Ends
 use Rattle.hs_pipeline.proofs.Meanings.{Environments, EndsIn, lowered_runs}
 use Rattle.hs_pipeline.specs.Counted.{Numbered}
 use Rattle.hs_pipeline.proofs.Keeps.{lowered_shape, lowered_spelled, lowered_scoped, types_lowered}

@@ -11,11 +11,11 @@ use Rattle.hs_first_tree.specs.Call as call
 use Rattle.hs_first_tree.specs.Call.{Calls}
 use Rattle.hs_first_tree.specs.Compute as compute
 use Rattle.hs_first_tree.specs.Compute.{Out, Stuck, Ran, Process, follow, next, read, apply, run_exp, run_exps, run_rhs, run_stmt, run_stmts, run_block, Answer, NoCall, Ended, ended, result_of, answer_at, run_function, run_found, run_call}
-use Rattle.hs_em.specs.Means.{Meaning, value, panic, stuck, more, and_then, operated, same_var, fits, of_type, means}
+use Rattle.hs_first_em.specs.Means.{Meaning, value, panic, stuck, more, and_then, operated, same_var, fits, of_type, means}
 use Rattle.hs_pipeline.specs.Lower.{lowered_var, lowered_exp, lowered_exps, lowered_rhs, lowered_stmts, lowered_block, lowered_param, lowered_function, lowered}
-use Rattle.hs_em.specs.Ended as Ends
-use Rattle.hs_em.specs.Plain.{Module}
-use Rattle.hs_em.specs.Environment.{Env, bound, looked, evaluated, all_evaluated, env_of, evaluated_in, called_in}
+use Rattle.hs_first_em.specs.Ended as Ends
+use Rattle.hs_first_em.specs.Plain.{Module}
+use Rattle.hs_first_em.specs.Environment.{Env, bound, looked, evaluated, all_evaluated, env_of, evaluated_in, called_in}
 
 -- a meaning says what a run says; a run of an expression leaves its store as it was
 abbrev pub Alike : Meaning → Out → Type 0

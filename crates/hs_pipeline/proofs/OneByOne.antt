@@ -2,8 +2,8 @@
 use Rattle.std.proofs.Common.{◌≡◌, ℕ, List, [], ◌∷◌, ◌++◌, map, refl, ap}
 use Rattle.hs_first_tree.specs.Plain as tree
 use Rattle.hs_first_tree.specs.Of.{exps_of, stmts_of}
-use Rattle.hs_em.specs.Plain.{Em, em}
-use Rattle.hs_em.specs.Of.{ems_of}
+use Rattle.hs_first_em.specs.Plain.{Em, em}
+use Rattle.hs_first_em.specs.Of.{ems_of}
 use Rattle.hs_pipeline.specs.Lower.{lowered_exp, lowered_exps, lowered_stmt, lowered_stmts}
 
 pub operands_lowered : (names : List (List ℕ)) (es : List tree.Exp) → ems_of (map (lowered_exp names) es) ≡ lowered_exps names (exps_of es)

@@ -1,7 +1,7 @@
 -- The module of a program in which nothing is assigned: one definition for each function.
 use Rattle.std.specs.Prelude.{ℕ, List, [], map, get_or}
 use Rattle.hs_first_tree.specs.Plain as tree
-use Rattle.hs_em.specs.Plain.{EmVar, Em, local, number, op, bind, Ems, no_ems, em, EmPar, EmDef, Module}
+use Rattle.hs_first_em.specs.Plain.{EmVar, Em, local, number, op, bind, Ems, no_ems, em, EmPar, EmDef, Module}
 
 -- a local with the name that its function's list gives it
 abbrev pub lowered_var : List (List ℕ) → ℕ → EmVar

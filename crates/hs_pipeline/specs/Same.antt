@@ -4,8 +4,8 @@ use Rattle.hs_first_tree.specs.Value.{ValType, Value, Panic, FitsAll}
 use Rattle.hs_first_tree.specs.Plain as tree
 use Rattle.hs_first_tree.specs.Call as call
 use Rattle.hs_first_tree.specs.Call.{Calls}
-use Rattle.hs_em.specs.Plain.{EmPar, EmDef, Module}
-use Rattle.hs_em.specs.Means.{value, panic, means}
+use Rattle.hs_first_em.specs.Plain.{EmPar, EmDef, Module}
+use Rattle.hs_first_em.specs.Means.{value, panic, means}
 
 -- the types of a function's parameters
 abbrev pub types_of : tree.Function → List ValType

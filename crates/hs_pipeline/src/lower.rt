@@ -3,13 +3,13 @@
 ghost use Rattle.std.specs.Prelude.{◌≡◌, ◌<◌, ◌^◌, List, map, length, IfOk};
 ghost use Rattle.std.specs.List.{AllByRecursion};
 ghost use Rattle.hs_first_tree.specs.Of.{exps_of, exp_of, rhs_of, stmts_of, stmt_of, block_of, param_of, function_of, program_of};
-ghost use Rattle.hs_em.specs.Of.{type_of, var_of, ems_of, em_of, par_of, def_of, module_of};
+ghost use Rattle.hs_first_em.specs.Of.{type_of, var_of, ems_of, em_of, par_of, def_of, module_of};
 ghost use Rattle.hs_pipeline.specs.Counted.{Numbered};
 ghost use Rattle.hs_pipeline.specs.Lower.{lowered_var, lowered_exp, lowered_exps, lowered_rhs, lowered_stmt, lowered_stmts, lowered_block, lowered_param, lowered_function, lowered};
 
 use hs_base::memory::NoMemory;
 use hs_base::name::Name;
-use hs_em::module::{Em, EmDef, EmPar, EmTy, EmVar, Module};
+use hs_first_em::module::{Em, EmDef, EmPar, EmTy, EmVar, Module};
 use hs_first_tree::features::NoAssign;
 use hs_first_tree::node::{Block, Exp, Rhs, Stmt};
 use hs_first_tree::program::{Function, Parameter, Program, ValType};

@@ -1,5 +1,5 @@
 use Rattle.hs_first_tree.specs.Of.{program_of}
-use Rattle.hs_em.specs.Of.{module_of}
+use Rattle.hs_first_em.specs.Of.{module_of}
 use Rattle.std.proofs.Common.{refl}
 use Rattle.hs_cli.proofs.Prints.{laid_prints}
 use Rattle.hs_cli.proofs.answer.print_program.Goals as goal

@@ -1,8 +1,8 @@
 use Rattle.std.proofs.Common.{rules, ◌≡◌, sym, subst, ◌++◌}
-use Rattle.hs_em.specs.declared.module.Em.{the_lemmas}
-use Rattle.hs_em.specs.Plain.{bind}
-use Rattle.hs_em.specs.Of.{em_of, var_of}
-use Rattle.hs_em.specs.Spelled.{is_let}
+use Rattle.hs_first_em.specs.declared.module.Em.{the_lemmas}
+use Rattle.hs_first_em.specs.Plain.{bind}
+use Rattle.hs_first_em.specs.Of.{em_of, var_of}
+use Rattle.hs_first_em.specs.Spelled.{is_let}
 use Rattle.hs_fstar.specs.Layout.{em_text}
 use Rattle.hs_fstar.specs.Lines.{indent_of_bound, let_text, in_text}
 use Rattle.hs_fstar.proofs.Pieces.{let_written}

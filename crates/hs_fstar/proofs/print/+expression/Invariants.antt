@@ -1,5 +1,5 @@
 use Rattle.std.proofs.Common.{◌≡◌, ◌++◌, map, drop}
-use Rattle.hs_em.specs.Of.{ems_of, em_of}
+use Rattle.hs_first_em.specs.Of.{ems_of, em_of}
 use Rattle.hs_fstar.specs.Layout.{ems_text}
 use Rattle.hs_fstar.proofs.print.+expression.Given as goal
 

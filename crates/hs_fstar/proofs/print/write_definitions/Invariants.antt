@@ -1,5 +1,5 @@
 use Rattle.std.proofs.Common.{◌≡◌, ◌++◌, map, drop, flat_map}
-use Rattle.hs_em.specs.Of.{def_of}
+use Rattle.hs_first_em.specs.Of.{def_of}
 use Rattle.hs_fstar.specs.Layout.{def_text}
 use Rattle.hs_fstar.proofs.print.write_definitions.Given as goal
 

@@ -4,7 +4,7 @@ use Rattle.hs_first_tree.specs.Of.{program_of}
 use Rattle.hs_first_tree.specs.Call.{header_of, SameResults}
 use Rattle.hs_first_tree.specs.Features.{src}
 use Rattle.hs_first_tree.specs.Sound.{Sound}
-use Rattle.hs_em.specs.Of.{module_of}
+use Rattle.hs_first_em.specs.Of.{module_of}
 use Rattle.hs_pipeline.proofs.Kept.{Keeps, program_kept}
 use Rattle.hs_pipeline.proofs.composition.emit.Goals as goal
 

@@ -2,10 +2,10 @@ use Rattle.std.proofs.Common.{rules, ◌≡◌, sym, ap, ◌∙◌, map}
 use Rattle.hs_first_tree.specs.Plain as tree
 use Rattle.hs_first_tree.specs.declared.node.Exp as node
 use Rattle.hs_first_tree.specs.Of.{exps_of, exp_of}
-use Rattle.hs_em.specs.Of.{ems_of, em_of}
-use Rattle.hs_em.specs.Plain as em
-use Rattle.hs_em.specs.declared.module.Em.{the_lemmas}
-use Rattle.hs_em.specs.declared.module.Em.TheVariants.{Op}
+use Rattle.hs_first_em.specs.Of.{ems_of, em_of}
+use Rattle.hs_first_em.specs.Plain as em
+use Rattle.hs_first_em.specs.declared.module.Em.{the_lemmas}
+use Rattle.hs_first_em.specs.declared.module.Em.TheVariants.{Op}
 use Rattle.hs_pipeline.specs.Lower.{lowered_exp, lowered_exps}
 use Rattle.hs_pipeline.proofs.OneByOne.{operands_lowered}
 use Rattle.hs_pipeline.proofs.lower.+expression.Goals as goal

@@ -1,6 +1,6 @@
 use Rattle.std.proofs.Common.{◌≡◌, map, take}
 use Rattle.hs_first_tree.specs.Of.{exp_of}
-use Rattle.hs_em.specs.Of.{em_of}
+use Rattle.hs_first_em.specs.Of.{em_of}
 use Rattle.hs_pipeline.specs.Lower.{lowered_exp}
 use Rattle.hs_pipeline.proofs.lower.+expression.Given as goal
 

@@ -1,6 +1,6 @@
 use Rattle.std.proofs.Common.{◌≡◌, map, take}
 use Rattle.hs_first_tree.specs.Of.{function_of}
-use Rattle.hs_em.specs.Of.{def_of}
+use Rattle.hs_first_em.specs.Of.{def_of}
 use Rattle.hs_pipeline.specs.Lower.{lowered_function}
 use Rattle.hs_pipeline.proofs.lower.lower.Given as goal
 

@@ -1,6 +1,6 @@
 use Rattle.std.proofs.Common.{◌≡◌, [], ◌∷◌, ◌++◌, map, sym, ap, ◌∙◌}
 use Rattle.hs_first_tree.specs.Of.{stmt_of, stmts_of}
-use Rattle.hs_em.specs.Of.{em_of}
+use Rattle.hs_first_em.specs.Of.{em_of}
 use Rattle.hs_pipeline.specs.Lower.{lowered_stmts}
 use Rattle.hs_pipeline.proofs.OneByOne.{lowered_last, map_last}
 use Rattle.hs_pipeline.proofs.lower.lower_block.Goals as goal

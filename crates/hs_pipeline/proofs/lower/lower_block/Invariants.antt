@@ -1,6 +1,6 @@
 use Rattle.std.proofs.Common.{◌≡◌, map, length}
 use Rattle.hs_first_tree.specs.Of.{stmt_of, stmts_of, block_of}
-use Rattle.hs_em.specs.Of.{em_of}
+use Rattle.hs_first_em.specs.Of.{em_of}
 use Rattle.hs_pipeline.specs.Lower.{lowered_stmts, lowered_block}
 use Rattle.hs_pipeline.proofs.lower.lower_block.Given as goal
 

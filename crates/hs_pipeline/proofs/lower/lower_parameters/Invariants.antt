@@ -1,6 +1,6 @@
 use Rattle.std.proofs.Common.{◌≡◌, map, take}
 use Rattle.hs_first_tree.specs.Of.{param_of}
-use Rattle.hs_em.specs.Of.{par_of}
+use Rattle.hs_first_em.specs.Of.{par_of}
 use Rattle.hs_pipeline.specs.Lower.{lowered_param}
 use Rattle.hs_pipeline.proofs.lower.lower_parameters.Given as goal
 

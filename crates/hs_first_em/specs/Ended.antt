@@ -1,6 +1,6 @@
 -- What a call of a module ended with.
 use Rattle.hs_first_tree.specs.Value.{U32, Fits}
-use Rattle.hs_em.specs.Means.{Meaning, value, panic, stuck}
+use Rattle.hs_first_em.specs.Means.{Meaning, value, panic, stuck}
 
 -- a value of u32 or a panic
 abbrev pub Ended : Meaning → Type 0

@@ -3,7 +3,7 @@
 ghost use Rattle.std.specs.Prelude.{◌≡◌};
 ghost use Rattle.std.specs.List.{list_all};
 ghost use Rattle.hs_base.specs.Names as names;
-ghost use Rattle.hs_em.specs.Spelled.{is_module_name, begins_upper};
+ghost use Rattle.hs_first_em.specs.Spelled.{is_module_name, begins_upper};
 
 use hs_base::spelling::is_word_byte;
 

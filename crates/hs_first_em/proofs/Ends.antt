@@ -4,13 +4,13 @@ use Rattle.std.specs.Prelude.{option_map, slice_get}
 use Rattle.std.proofs.lemmas.Bool.{true≢false, lt-ltb, ltb-true}
 use Rattle.hs_first_tree.specs.Value.{ValType, U32, Value, Number, Overflow, Fits, FitsAll}
 use Rattle.hs_first_tree.specs.Operation.{Is, Fails, applied}
-use Rattle.hs_em.specs.Plain.{EmVar, Em, local, number, op, bind, given, Ems, no_ems, em, EmPar, EmDef, Module}
-use Rattle.hs_em.specs.Spelled.{SpelledEm, SpelledEms, SpelledDefs, Spelled}
-use Rattle.hs_em.specs.Scoped.{has_var, count, ScopedEm, ScopedEms, vars_of, ScopedDefs, Scoped}
-use Rattle.hs_em.specs.Means.{Meaning, value, panic, stuck, more, and_then, operated, same_var, of_type, means}
-use Rattle.hs_em.specs.Environment.{Env, unbound, bound, looked, evaluated, all_evaluated, env_of, evaluated_in, called_in}
-use Rattle.hs_em.specs.Ended.{Ended}
-use Rattle.hs_em.proofs.Environment.{same_var-true, same_var-same, means_env}
+use Rattle.hs_first_em.specs.Plain.{EmVar, Em, local, number, op, bind, given, Ems, no_ems, em, EmPar, EmDef, Module}
+use Rattle.hs_first_em.specs.Spelled.{SpelledEm, SpelledEms, SpelledDefs, Spelled}
+use Rattle.hs_first_em.specs.Scoped.{has_var, count, ScopedEm, ScopedEms, vars_of, ScopedDefs, Scoped}
+use Rattle.hs_first_em.specs.Means.{Meaning, value, panic, stuck, more, and_then, operated, same_var, of_type, means}
+use Rattle.hs_first_em.specs.Environment.{Env, unbound, bound, looked, evaluated, all_evaluated, env_of, evaluated_in, called_in}
+use Rattle.hs_first_em.specs.Ended.{Ended}
+use Rattle.hs_first_em.proofs.Environment.{same_var-true, same_var-same, means_env}
 
 -- a local with a value of u32
 abbrev Holds : Option Value → Type 0

@@ -1,0 +1,4 @@
+pub mod Bytes
+pub mod Environment
+pub mod Ends
+pub mod Rows

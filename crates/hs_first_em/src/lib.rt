@@ -1,0 +1,6 @@
+//! Emitted modules: their trees, which of them are spelled and scoped, and what they mean.
+#![tactic(auto)]
+
+pub mod law;
+pub mod module;
+pub mod name;
