@@ -1,10 +1,14 @@
 pub mod Binds
 pub mod Excludes
 pub mod Good
+pub mod Holds
 pub mod Kept
 pub mod Layers
+pub mod Leaves
 pub mod Left
 pub mod Lies
+pub mod Locals
+pub mod Named
 pub mod Needs
 pub mod Outlined
 pub mod Patterns

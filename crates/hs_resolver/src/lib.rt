@@ -11,6 +11,6 @@ mod walk;
 mod world;
 
 pub use known::Use;
-pub use law::names_exclude;
+pub use law::{locals_are_spelled, names_exclude};
 pub use names::{ItemNames, Names};
 pub use resolver::resolve;
