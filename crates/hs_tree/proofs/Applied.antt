@@ -3,7 +3,7 @@ use Rattle.std.proofs.Common.{◌≡◌, ℕ, ◌+◌, ◌^◌, Bool, true, ◌&
 use Rattle.std.specs.Prelude.{codes, nat_lt}
 use Rattle.std.specs.Ordering.{int_eq}
 use Rattle.hs_words.specs.Word.{Integer}
-use Rattle.hs_words.specs.declared.kinds.IntTy.TheVariants.{PU8, PU32, PUsize}
+use Rattle.hs_words.specs.declared.kinds.IntTy.TheVariants.{PU32, PUsize}
 use Rattle.hs_words.specs.declared.kinds.Panic.TheVariants.{Division}
 use Rattle.hs_values.specs.Kinds.{is_kind}
 use Rattle.hs_values.specs.declared.types.ValType.{ValType, out-ValType}
@@ -23,18 +23,13 @@ use Rattle.hs_ops.specs.Table.{operation_named}
 use Rattle.hs_ops.specs.declared.operation.NumberOp.TheVariants.{Add, Div}
 use Rattle.hs_ops.specs.declared.operation.SingleOp.TheVariants.{Same, Make, Push}
 use Rattle.hs_ops.specs.declared.operation.Operation.TheVariants.{Number, Single}
-use Rattle.hs_tree.specs.Values as val
-use Rattle.hs_tree.specs.Values.{Val, Truth, Row, NoVals, Also, vals_of, level_of, val_of, Is, Fails, applied}
+use Rattle.hs_control.specs.Control as val
+use Rattle.hs_control.specs.Control.{Val, Truth, Row, NoVals, Also, vals_of, level_of, val_of, Is, Fails, applied}
 use Rattle.hs_tree.specs.Match.{ctors_of}
 use Rattle.hs_tree.specs.Steps.{size}
+use Rattle.hs_tree.specs.SmallPrograms.{byte, word, bytes}
 
 -- numbers as values
-abbrev pub byte : ℕ → Val
-byte n = val.Number (record { kind = PU8; number = pos n })
-
-abbrev pub word : ℕ → Val
-word n = val.Number (record { kind = PU32; number = pos n })
-
 out_int : (n : Integer) → out-Value (value.Int n) ≡ layer.Int n
 out_int n = search (rules, the_lemmas)
 
@@ -119,9 +114,6 @@ unfolding applied
 one_and_five = simp (named_word_add, out_int, val_int) refl
 
 -- a sequence of these bytes
-abbrev pub bytes : List ℕ → Val
-bytes ns = Row (vals_of (map byte ns))
-
 pub pushed : applied (codes "q_push") (bytes (0 ∷ []) ∷ byte 7 ∷ []) ≡ Is (bytes (0 ∷ 7 ∷ []))
 unfolding applied
 pushed = simp (named_push, out_row, val_row, val_int) refl

@@ -3,7 +3,7 @@ use Rattle.std.proofs.Common.{◌≡◌, ◌⊎◌, ◌↔◌, inl, inr, ℕ, ze
 use Rattle.std.specs.Bool.{⊤}
 use Rattle.hs_values.specs.declared.value.Sort.TheVariants as sort
 use Rattle.hs_tree.specs.Plain.{Name, Local, Carrying, turns, turnscf, fold, foldcf, Pattern, Exp, var, lit, truth, unit, const, tuple, list, ctor, op, call, and, or, in_side, exit, cont, Exps, no_exps, exp, Args, no_args, arg, lend, Rhs, plain, if_else, match_on, block, lendcall, quest, forcf, carry, Arms, no_arms, arm, Steps, here, at, part, Block, let_in, do_in, set_in, place_in, for_in, ends, returns, bind}
-use Rattle.hs_tree.specs.Values.{Val, Nothing, Truth, Number, Row, Tuple, Ctor, Exit, Cont, NoVals, Also, vals_of, Reply, Is, Fails, NoReply, applied}
+use Rattle.hs_control.specs.Control.{Val, Nothing, Truth, Number, Row, Tuple, Ctor, Exit, Cont, NoVals, Also, vals_of, Reply, Is, Fails, NoReply, applied}
 use Rattle.hs_tree.specs.Store.{Slot, Empty, Moved, Has, Store, put, Returned, Panicked, Outcome, Gives, Stops, Out, Stuck, Ran, Result, value, panic, Back, NoCall, Ended, Calls, CallRel}
 use Rattle.hs_tree.specs.Match.{ctor_named, matched, bound}
 use Rattle.hs_tree.specs.Way.{Pick, item, part_no, replaced, became}

@@ -7,7 +7,7 @@ use Rattle.std.specs.Bool.{⊤}
 use Rattle.hs_values.specs.declared.types.TypeDef.{TypeDef}
 use Rattle.hs_values.specs.declared.value.Sort.TheVariants as sort
 use Rattle.hs_tree.specs.Plain.{Name, Local, Carrying, turns, turnscf, fold, foldcf, Pattern, binds, anything, parts, taken, Patterns, no_patterns, pattern, Exp, var, lit, truth, unit, const, tuple, list, ctor, op, call, and, or, in_side, exit, cont, Exps, no_exps, exp, Args, no_args, arg, lend, Rhs, plain, if_else, match_on, block, lendcall, quest, forcf, carry, Arms, no_arms, arm, Steps, here, at, part, Block, let_in, do_in, set_in, place_in, for_in, ends, returns, bind}
-use Rattle.hs_tree.specs.Values.{Val, Nothing, Truth, Number, Row, Tuple, Ctor, Exit, Cont, Vals, NoVals, Also, Reply, Is, Fails, NoReply, applied}
+use Rattle.hs_control.specs.Control.{Val, Nothing, Truth, Number, Row, Tuple, Ctor, Exit, Cont, Vals, NoVals, Also, Reply, Is, Fails, NoReply, applied}
 use Rattle.hs_tree.specs.Store.{Slot, Empty, Moved, Has, Store, put, among, back, Gives, Stops, Out, Stuck, Ran, value, panic, Back, NoCall, Ended, Calls}
 use Rattle.hs_tree.specs.Match.{ctor_named, is_ctor, matched, matched_all, and_then, bound}
 use Rattle.hs_tree.specs.Way.{Pick, item, part_no, replaced, became}

@@ -3,7 +3,7 @@ use Rattle.std.proofs.Common.{◌≡◌, ℕ, ◌+◌, List, [], ◌∷◌, refl
 use Rattle.std.proofs.Math.Path.{fun_ext}
 use Rattle.std.specs.Prelude.{bytes_eq, if◌then◌else◌}
 use Rattle.hs_tree.specs.Plain.{Name, Function}
-use Rattle.hs_tree.specs.Values.{Val}
+use Rattle.hs_control.specs.Control.{Val}
 use Rattle.hs_tree.specs.Store.{Store, Gives, Stops, Out, Stuck, Ran, Back, Calls}
 use Rattle.hs_tree.specs.World.{World}
 use Rattle.hs_tree.specs.Steps.{more, follow}

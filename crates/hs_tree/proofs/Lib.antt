@@ -1,9 +1,17 @@
 mod Applied
 mod Bridge
+mod Forms
 mod Frame
 mod Fresh
 mod Laws
+mod Lent
+mod Lines
+mod Numerals
+mod Pieces
 mod Programs
+mod Reader
 mod Rows
+mod Spelled
 mod Texts
+mod Told
 mod Unused

@@ -8,7 +8,7 @@ use Rattle.hs_values.specs.declared.types.TypeDef.{TypeDef}
 use Rattle.hs_values.specs.declared.value.Value.{Value}
 use Rattle.hs_tree.specs.Plain.{Name, Mode, is_mut, is_lent, Param, Function, Program}
 use Rattle.hs_tree.specs.Types.{copied}
-use Rattle.hs_tree.specs.Values.{Val, Tuple, vals_of, val_of}
+use Rattle.hs_control.specs.Control.{Val, Tuple, vals_of, val_of}
 use Rattle.hs_tree.specs.Store.{Slot, Empty, Moved, Has, Store, empty, put, Returned, Panicked, Outcome, Gives, Stops, Out, Stuck, Ran, Result, value, panic, Back, NoCall, Ended, Calls, CallRel}
 use Rattle.hs_tree.specs.World.{World, constants_of}
 use Rattle.hs_tree.specs.Run.{run_block}

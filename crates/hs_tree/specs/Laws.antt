@@ -1,11 +1,15 @@
--- Laws of runs and calls on which rewritings stand.
+-- Laws of runs and calls on which rewritings stand, and the law of texts.
 use Rattle.std.specs.Prelude.{◌≡◌, ◌↔◌, ℕ, List, [], ◌∷◌, reverse, ⊤}
 use Rattle.hs_tree.specs.Plain.{Name, Function, Program}
-use Rattle.hs_tree.specs.Values.{Val}
+use Rattle.hs_control.specs.Control.{Val}
 use Rattle.hs_tree.specs.Store.{Store, Out, Result, Calls}
 use Rattle.hs_tree.specs.World.{World}
 use Rattle.hs_tree.specs.Steps.{follow, give}
-use Rattle.hs_tree.specs.Call.{Moves, world_of, call_function, Results}
+use Rattle.hs_tree.specs.Features.{Stage}
+use Rattle.hs_tree.specs.Call.{Moves, LocalTypes, world_of, call_function, Results}
+use Rattle.hs_tree.specs.Scopes.{Locals}
+use Rattle.hs_tree.specs.Sound.{Sound}
+use Rattle.hs_tree.specs.Text.{text}
 
 -- what follows what follows a run follows it
 abbrev pub FollowsOn : Type 0
@@ -31,3 +35,9 @@ SameByFunctions =
     (p q : Program) (moves others : Moves)
     → SameFunctions (world_of p moves) (world_of q others) (reverse p.functions) (reverse q.functions)
     → (f : Name) (vs : List Val) (r : Result) (n : ℕ) → Results p moves f vs r n ↔ Results q others f vs r n
+
+-- programs with the same types, constants and texts, each sound for a stage, are the same
+abbrev pub TextsTell : Type 0
+TextsTell =
+    (s t : Stage) (p q : Program) (lists others : List Locals) (types kinds : LocalTypes)
+    → Sound s p lists types → Sound t q others kinds → p.types ≡ q.types → p.constants ≡ q.constants → text p ≡ text q → p ≡ q

@@ -3,7 +3,6 @@ pub mod Features
 pub mod Names
 pub mod Count
 pub mod Types
-pub mod Values
 pub mod Store
 pub mod Match
 pub mod Way
@@ -23,3 +22,6 @@ pub mod Named
 pub mod Laws
 pub mod Of
 pub mod Source
+pub mod Pending
+pub mod SmallPrograms
+pub mod SmallTexts

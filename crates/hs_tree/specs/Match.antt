@@ -11,7 +11,7 @@ use Rattle.hs_values.specs.declared.value.Sort.{Sort}
 use Rattle.hs_values.specs.declared.value.Sort.TheVariants as sort
 use Rattle.hs_ops.specs.Parts.{same_sort}
 use Rattle.hs_tree.specs.Plain.{Name, Pattern, binds, anything, parts, taken, Patterns, no_patterns, pattern}
-use Rattle.hs_tree.specs.Values.{Val, Nothing, Truth, Number, Row, Tuple, Ctor, Exit, Cont, Vals, NoVals, Also}
+use Rattle.hs_control.specs.Control.{Val, Nothing, Truth, Number, Row, Tuple, Ctor, Exit, Cont, Vals, NoVals, Also}
 use Rattle.hs_tree.specs.Store.{Has, Store, put}
 
 -- one place later

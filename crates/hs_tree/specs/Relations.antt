@@ -2,7 +2,7 @@
 use Rattle.std.specs.Prelude.{◌≡◌, ◌⊎◌, ℕ, zero, suc, ◌+◌, ◌-◌, Bool, true, false, List, Option, Some, ⊤}
 use Rattle.hs_words.specs.declared.kinds.Panic.{Panic}
 use Rattle.hs_values.specs.declared.value.Sort.TheVariants as sort
-use Rattle.hs_tree.specs.Values.{Val, Nothing, Truth, Ctor, Exit, Cont, NoVals, Also, Reply, Is, Fails, NoReply}
+use Rattle.hs_control.specs.Control.{Val, Nothing, Truth, Ctor, Exit, Cont, NoVals, Also, Reply, Is, Fails, NoReply}
 use Rattle.hs_tree.specs.Store.{Has, Moved, Store, put, back, Returned, Panicked, Outcome, Gives, Stops, Result, value, panic}
 use Rattle.hs_tree.specs.Steps.{size_in, back_in}
 

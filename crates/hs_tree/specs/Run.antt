@@ -1,7 +1,7 @@
 -- Runs as a total function: the one run of a node at a store, or that it has none. Beside it stands the relation, in Meaning.
 use Rattle.std.specs.Prelude.{ℕ, suc, Bool, true, false, ◌&&◌, not, List, [], ◌∷◌, Option, Some, None}
 use Rattle.hs_tree.specs.Plain.{Name, Local, Carrying, turns, turnscf, fold, foldcf, Around, top, inside, Pattern, Exp, var, lit, truth, unit, const, tuple, list, ctor, op, call, and, or, in_side, exit, cont, Exps, no_exps, exp, Args, no_args, arg, lend, Rhs, plain, if_else, match_on, block, lendcall, quest, forcf, carry, Arms, no_arms, arm, Steps, here, at, part, Block, let_in, do_in, set_in, place_in, for_in, ends, returns, bind}
-use Rattle.hs_tree.specs.Values.{Val, Nothing, Truth, Number, Row, Tuple, Exit, Cont, vals_of, applied}
+use Rattle.hs_control.specs.Control.{Val, Nothing, Truth, Number, Row, Tuple, Exit, Cont, vals_of, applied}
 use Rattle.hs_tree.specs.Store.{Has, Store, put, Returned, Out, Stuck, Calls}
 use Rattle.hs_tree.specs.Match.{ctor_named, matched, bound}
 use Rattle.hs_tree.specs.Way.{Pick, item, part_no, replaced, became}

@@ -4,7 +4,7 @@ use Rattle.hs_words.specs.declared.kinds.IntTy.TheVariants.{PUsize}
 use Rattle.hs_values.specs.Kinds.{is_kind}
 use Rattle.hs_values.specs.declared.value.Sort.{Sort}
 use Rattle.hs_values.specs.declared.value.Sort.TheVariants as sort
-use Rattle.hs_tree.specs.Values.{Val, Nothing, Truth, Number, Row, Tuple, Ctor, Exit, Cont, Vals, NoVals, Also, Reply, Is, Fails, NoReply}
+use Rattle.hs_control.specs.Control.{Val, Nothing, Truth, Number, Row, Tuple, Ctor, Exit, Cont, Vals, NoVals, Also, Reply, Is, Fails, NoReply}
 use Rattle.hs_tree.specs.Store.{Slot, Empty, Moved, Has, Store, put, back, Why, Returned, Panicked, Outcome, Gives, Stops, Out, Stuck, Ran, value, panic, Back, NoCall, Ended}
 
 -- so many turns more

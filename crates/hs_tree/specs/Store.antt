@@ -2,7 +2,7 @@
 use Rattle.std.specs.Prelude.{ℕ, Bool, false, ◌||◌, List, [], ◌∷◌, cond, eqb}
 use Rattle.hs_words.specs.declared.kinds.Panic.{Panic}
 use Rattle.hs_tree.specs.Plain.{Name}
-use Rattle.hs_tree.specs.Values.{Val}
+use Rattle.hs_control.specs.Control.{Val}
 
 -- what a local holds: it is not bound, its value was moved out, or a value
 pub data Slot : Type 0 where

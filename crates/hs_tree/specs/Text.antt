@@ -1,5 +1,6 @@
 -- The text of a tree: a form for each node, which begins with the node's word, and a line for each function.
-use Rattle.std.specs.Prelude.{ℕ, suc, Bool, true, false, not, ◌&&◌, ◌||◌, eqb, ℤ, pos, negsuc, List, [], ◌∷◌, ◌++◌, map, Option, Some, None, slice_get, codes, decimal}
+use Rattle.std.specs.Prelude.{ℕ, suc, ◌+◌, ◌/◌, ◌^◌, Bool, true, false, not, ◌&&◌, ◌||◌, eqb, ℤ, pos, negsuc, List, [], ◌∷◌, ◌++◌, map, Option, Some, None, slice_get, codes}
+use Rattle.std.specs.Fmt.{digits_onto}
 use Rattle.std.specs.List.{list_all}
 use Rattle.hs_values.specs.declared.types.ValType.{ValType}
 use Rattle.hs_values.specs.declared.types.ValType.TheOpen.{ValType-F}
@@ -70,10 +71,14 @@ one f = form f no_forms
 abbrev pub two : Form → Form → Forms
 two f g = form f (one g)
 
+-- a number in decimal digits, without leading zeros; above 64 digits there is room for more
+unfoldable pub numeral : ℕ → List ℕ
+numeral n = digits_onto (64 + n / 10 ^ 64) 10 false n []
+
 -- a whole number in decimal digits
 abbrev pub digits : ℤ → List ℕ
-digits (pos n) = decimal n
-digits (negsuc n) = 45 ∷ decimal (suc n)
+digits (pos n) = numeral n
+digits (negsuc n) = 45 ∷ numeral (suc n)
 
 -- the word of a type that has a name
 abbrev pub named : Option TypeDef → Form
@@ -102,7 +107,7 @@ shown_type table = fold-ValType Form (shown_level table)
 
 -- a local's name and number, before what follows
 abbrev pub shown_local : Local → Forms → Forms
-shown_local k fs = form (word k.name) (form (word (decimal k.number)) fs)
+shown_local k fs = form (word k.name) (form (word (numeral k.number)) fs)
 
 abbrev pub shown_truth : Bool → Form
 shown_truth true = word (codes "true")
@@ -126,6 +131,11 @@ operator (Some o) = word o
 -- a block, by its statements and its end
 abbrev pub framed : Forms → Form
 framed fs = formed (codes "block") fs
+
+abbrev pub mode_word : Mode → List ℕ
+mode_word val = codes "val"
+mode_word ref = codes "ref"
+mode_word mut = codes "mut"
 
 module _ (table : List TypeDef) where
   abbrev mutual
@@ -188,7 +198,7 @@ module _ (table : List TypeDef) where
     pub shown_steps : Steps → Form → Forms
     shown_steps here end = one end
     shown_steps (at e steps) end = form (formed (codes "at") (one (shown_exp e))) (shown_steps steps end)
-    shown_steps (part i steps) end = form (formed (codes "part") (one (word (decimal i)))) (shown_steps steps end)
+    shown_steps (part i steps) end = form (formed (codes "part") (one (word (numeral i)))) (shown_steps steps end)
 
     -- the statements and the end of a block
     pub shown_rest : Block → Forms
@@ -202,11 +212,6 @@ module _ (table : List TypeDef) where
     shown_rest (ends r) = one (shown_rhs r)
     shown_rest (returns e) = one (formed (codes "return") (one (shown_exp e)))
     shown_rest (bind z p r b) = one (formed (codes "bind") (form (around_word z) (form (shown_pattern p) (two (shown_rhs r) (framed (shown_rest b))))))
-
-  abbrev pub mode_word : Mode → List ℕ
-  mode_word val = codes "val"
-  mode_word ref = codes "ref"
-  mode_word mut = codes "mut"
 
   -- a parameter
   abbrev pub shown_param : Param → Form

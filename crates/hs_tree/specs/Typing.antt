@@ -1,5 +1,5 @@
 -- The types of nodes: each node is of a type by those of its parts and by its place.
-use Rattle.std.specs.Prelude.{◌≡◌, ℕ, suc, Bool, true, false, ◌&&◌, List, [], ◌∷◌, length, Option, Some, None, slice_get, bytes_eq, unsigned_abs, IsTrue, ⊤, if◌then◌else◌}
+use Rattle.std.specs.Prelude.{◌≡◌, ℕ, suc, ◌≤◌, Bool, true, false, ◌&&◌, List, [], ◌∷◌, length, Option, Some, None, slice_get, bytes_eq, unsigned_abs, IsTrue, ⊤, if◌then◌else◌}
 use Rattle.std.specs.List.{list_any}
 use Rattle.hs_words.specs.Arithmetic.{is_in_range}
 use Rattle.hs_words.specs.declared.kinds.IntTy.TheVariants.{PUsize}
@@ -226,12 +226,13 @@ abbrev mutual
   ArmsTyped g no_arms u t = ⊤
   ArmsTyped g (arm p b xs) u t = ArmTyped g p u × BlockTyped g b t × ArmsTyped g xs u t
 
-  -- a way from the first type to the second
+  -- a way from the first type to the second; a tuple on it has at most 12 parts, as those that operations take
   pub StepsTyped : Known → Steps → ValType → ValType → Type 0
   StepsTyped g here t u = t ≡ u
   StepsTyped g (at e steps) t u = (item : ValType) × RowOf g.table t item × ExpTyped g e (Value size) × StepsTyped g steps item u
   StepsTyped g (part i steps) t u =
-      (ts : List ValType) × (x : ValType) × (t ≡ type.Tuple ts) × (slice_get ts i ≡ Some x) × StepsTyped g steps x u
+      (ts : List ValType) × (x : ValType)
+      × (t ≡ type.Tuple ts) × (length ts ≤ 12) × (slice_get ts i ≡ Some x) × StepsTyped g steps x u
 
   -- a block; nothing follows what always exits, and what always exits is of every type
   pub BlockTyped : Known → Block → NodeType → Type 0

@@ -1,7 +1,7 @@
 -- Ways from a value to a part of it.
 use Rattle.std.specs.Prelude.{ℕ, zero, suc, List, [], ◌∷◌, Option, Some, None, option_map, codes}
 use Rattle.hs_tree.specs.Plain.{Name}
-use Rattle.hs_tree.specs.Values.{Val, Nothing, Truth, Number, Row, Tuple, Ctor, Exit, Cont, Vals, NoVals, Also, Reply, Is, applied, after, found}
+use Rattle.hs_control.specs.Control.{Val, Nothing, Truth, Number, Row, Tuple, Ctor, Exit, Cont, Vals, NoVals, Also, Reply, Is, applied, after, found}
 
 -- one step of a way: to the item at a place, which is a value, or to the part of a number
 pub data Pick : Type 0 where

@@ -8,7 +8,7 @@ use Rattle.hs_ops.specs.declared.operation.Operation.TheVariants.{SetPart, Singl
 use Rattle.hs_ops.specs.Standard.{standard_table}
 use Rattle.hs_ops.specs.Table.{operation_named}
 use Rattle.hs_tree.specs.Plain.{Name, Exp, var, lit, truth, unit, const, tuple, list, ctor, op, call, and, or, in_side, exit, cont, Exps, no_exps, exp, Constant}
-use Rattle.hs_tree.specs.Values.{Val, Nothing, Truth, Number, Row, Tuple, Ctor, vals_of, Reply, Is, Fails, NoReply, applied}
+use Rattle.hs_control.specs.Control.{Val, Nothing, Truth, Number, Row, Tuple, Ctor, vals_of, Reply, Is, Fails, NoReply, applied}
 use Rattle.hs_tree.specs.Match.{ctor_named}
 use Rattle.hs_values.specs.declared.value.Sort.{Sort}
 

@@ -2,7 +2,7 @@
 
 ghost use Rattle.std.specs.Prelude.{◌≡◌, ◌↔◌, ℕ, List, false};
 ghost use Rattle.hs_tree.specs.Plain as tree;
-ghost use Rattle.hs_tree.specs.Values.{Val};
+ghost use Rattle.hs_control.specs.Control.{Val};
 ghost use Rattle.hs_tree.specs.Of.{program_of};
 ghost use Rattle.hs_tree.specs.Features.{Feature, stage_of};
 ghost use Rattle.hs_tree.specs.Count.{uses};
@@ -10,7 +10,7 @@ ghost use Rattle.hs_tree.specs.Store.{Calls, Result, Ended};
 ghost use Rattle.hs_tree.specs.Call.{Moves, Results, results};
 ghost use Rattle.hs_tree.specs.World.{World};
 ghost use Rattle.hs_tree.specs.Named.{FreshChangesNothing, UnwrittenStays};
-ghost use Rattle.hs_tree.specs.Laws.{FollowsOn, FollowsGiven, SameByFunctions};
+ghost use Rattle.hs_tree.specs.Laws.{FollowsOn, FollowsGiven, SameByFunctions, TextsTell};
 
 use crate::features::Features;
 use crate::program::Program;
@@ -47,4 +47,10 @@ pub fn unwritten_locals_stay()
 pub fn runs_follow_one_another()
     ensures on { FollowsOn }
     ensures given { FollowsGiven }
+{}
+
+/// The text of a sound program tells its functions: two programs with the same types, constants and texts, each sound for a stage, have
+/// the same plain tree.
+pub fn texts_tell_programs()
+    ensures { TextsTell }
 {}

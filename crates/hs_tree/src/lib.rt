@@ -2,6 +2,13 @@
 #![tactic(auto)]
 
 pub mod features;
+mod item;
 pub mod law;
 pub mod node;
+mod open;
 pub mod program;
+pub mod shared;
+pub mod show;
+pub mod small;
+mod stack;
+mod text;

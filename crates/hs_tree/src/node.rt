@@ -1,7 +1,8 @@
 //! Nodes of trees. A local is held by its number, from 0, in its function's list of names. A node that not each stage has holds a
-//! mark of each feature that it needs.
+//! mark of each feature that it needs. Types are shared: all nodes of one type may hold the same.
 
 use crate::features::Features;
+use crate::shared::Shared;
 use hs_base::name::Name;
 use hs_values::ValType;
 use hs_words::Word;
@@ -17,7 +18,7 @@ pub struct Span {
 /// What is known of a node of a source: its type, and where it stands in the text.
 #[derive(Drop)]
 pub struct Note {
-    pub ty: ValType,
+    pub ty: Shared<ValType>,
     pub span: Span,
 }
 
@@ -40,7 +41,7 @@ pub enum Pattern {
     /// The parts of a tuple.
     Tuple(Items<Pattern>),
     /// The parts of a constructor of a type.
-    Ctor(ValType, Name, Items<Pattern>),
+    Ctor(Shared<ValType>, Name, Items<Pattern>),
 }
 
 /// An expression.
@@ -62,7 +63,7 @@ pub enum Exp<F: Features> {
     /// The array of these items.
     List(Items<Exp<F>>),
     /// A constructor of a type, by its name, with these parts.
-    Ctor(ValType, Name, Items<Exp<F>>),
+    Ctor(Shared<ValType>, Name, Items<Exp<F>>),
     /// The operation of this name on the operands, from left to right.
     Op(Name, Note, Items<Exp<F>>),
     /// A call of the function of this name with these arguments.
@@ -104,7 +105,7 @@ pub enum Rhs<F: Features> {
     /// A call that lends locals.
     LendCall(F::MutArg, Name, Items<Arg<F>>),
     /// `?` on a value of this type.
-    Quest(F::Quest, ValType, Exp<F>),
+    Quest(F::Quest, Shared<ValType>, Exp<F>),
     /// A loop whose body gives control values: its variable, its bounds, its body.
     ForCf(F::Loop, F::Assign, F::Cf, usize, Exp<F>, Exp<F>, Boxed<Block<F>>),
     /// A loop that carries a value along.

@@ -1,7 +1,11 @@
 //! Programs: types, constants and functions, each in the order of items.
 
+ghost use Rattle.std.specs.Prelude.{◌≡◌, IfOk};
+
 use crate::features::Features;
 use crate::node::{Block, Exp};
+use crate::shared::Shared;
+use hs_base::memory::NoMemory;
 use hs_base::name::Name;
 use hs_values::{TypeTable, ValType};
 use sqlite_items::Items;
@@ -22,14 +26,14 @@ pub enum Mode<F: Features> {
 pub struct Param<F: Features> {
     pub mode: Mode<F>,
     pub local: usize,
-    pub ty: ValType,
+    pub ty: Shared<ValType>,
 }
 
 /// The names of a function's locals by their numbers, of a source also their types, and the function's block.
 #[derive(Drop)]
 pub struct Body<F: Features> {
     pub locals: Items<Name>,
-    pub types: Items<ValType>,
+    pub types: Items<Shared<ValType>>,
     pub block: Block<F>,
 }
 
@@ -38,7 +42,7 @@ pub struct Body<F: Features> {
 pub struct Function<F: Features> {
     pub name: Name,
     pub params: Items<Param<F>>,
-    pub ty: ValType,
+    pub ty: Shared<ValType>,
     pub body: Body<F>,
 }
 
@@ -46,14 +50,34 @@ pub struct Function<F: Features> {
 #[derive(Drop)]
 pub struct Constant<F: Features> {
     pub name: Name,
-    pub ty: ValType,
+    pub ty: Shared<ValType>,
     pub value: Exp<F>,
 }
 
-/// A program: its types, constants and functions, each in the order of items.
+/// A program: its types, constants and functions, each in the order of items, and the text of which it is the source, in whose
+/// bytes its nodes' places count; what a phase makes may have another one. Nothing in a program changes, so copies share all.
 #[derive(Drop)]
 pub struct Program<F: Features> {
-    pub types: TypeTable,
-    pub constants: Items<Constant<F>>,
-    pub functions: Items<Function<F>>,
+    pub text: Shared<Vec<u8>>,
+    pub types: Shared<TypeTable>,
+    pub constants: Shared<Items<Constant<F>>>,
+    pub functions: Shared<Items<Function<F>>>,
+}
+
+impl<F: Features> Program<F> {
+    /// An equal program. It takes as long for a large one as for a small one.
+    ///
+    /// # Errors
+    ///
+    /// `NoMemory` only for want of memory.
+    pub fn copy(&self) -> Result<Program<F>, NoMemory>
+        ensures { IfOk result (λ copy. copy ≡ self.now) }
+    {
+        Ok(Program {
+            text: self.text.share()?,
+            types: self.types.share()?,
+            constants: self.constants.share()?,
+            functions: self.functions.share()?,
+        })
+    }
 }
