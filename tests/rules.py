@@ -1,7 +1,7 @@
 #!/usr/bin/env python3
-"""Looks over docs/rules.md. Each text is that of crates/hs_base/specs/Rules.antt. Of each source of the rules on tokens, on the
-grammar, on names and on declarations the program tells that rule at that place; each other source is a file of the grammar, by the
-recogniser of tests/told.py.
+"""Looks over docs/rules.md. Each text is that of crates/hs_base/specs/Rules.antt, and the rules in their order are those that
+base_table prints. Of each source of the rules on tokens, on the grammar, on names and on declarations the program tells that rule
+at that place; each other source is a file of the grammar, by the recogniser of tests/told.py.
 
     rules.py            at the top of the repository, once ./hs is built
 """
@@ -47,6 +47,9 @@ def main():
             faults.append(f"{rule}: another text")
     if sorted(rule for rule, _, _ in rows) != sorted(texts):
         faults.append("a rule is missing, or stands twice")
+    numbered = [f"{number} {rule} {text}" for number, (rule, text, _) in enumerate(rows, 1)]
+    if read("crates/base_table/stdout").splitlines()[: len(rows)] != numbered:
+        faults.append("crates/base_table/stdout does not begin with these rules in this order")
     sources = re.findall(r"^\| ([A-Z]\d+) \| (.*?) \| `(.*)` \| (\d+:\d+) \|$", page, re.M)
     for rule, text, source, place in sources:
         if is_told(rule) and told_by_program(source) != f"{place}: {rule} {text}":

@@ -19,16 +19,16 @@ use std::io::{ErrorKind, Read};
 // How many bytes are asked for at once.
 const CHUNK: usize = 4096;
 
-// Why the bytes of a file were not read.
+/// Why the bytes of a file were not read.
 #[derive(Debug, Drop)]
-enum ReadFault {
-    // The system found no such file.
+pub enum ReadFault {
+    /// The system found no such file.
     NotThere,
-    // There are more bytes than the limit allows.
+    /// There are more bytes than the limit allows.
     TooLarge,
-    // The system failed, with this error.
+    /// The system failed, with this error.
     Failed(io::Error),
-    // There was no memory for the bytes.
+    /// There was no memory for the bytes.
     NoMemory,
 }
 
@@ -80,8 +80,10 @@ fn read_within<R: Read>(
     Ok(bytes)
 }
 
-// All the bytes that are left, if they are within the limit.
-fn read_all<R: Read>(
+/// All the bytes that are left, if they are within the limit. Of more bytes one past the limit is read, and that is `TooLarge`.
+///
+/// An interrupted read is made again while there are repeats; a further interruption, or another error, is `Failed`.
+pub fn read_all<R: Read>(
     alloc: Global,
     reader: &mut R,
     limit: u32,
@@ -189,99 +191,6 @@ impl<R: std::rt::Files> Files for Disk<R> {
         match read_opened(self.alloc, opened, limit, &mut repeats) {
             Ok(bytes) => Ok(bytes),
             Err(fault) => Err(self.tell(fault)),
-        }
-    }
-}
-
-#[cfg(test)]
-mod tests {
-    use super::*;
-    use std::test::Fail;
-
-    // Interrupted so many times, and then at the end.
-    #[derive(Drop)]
-    struct Interrupted {
-        left: u32,
-    }
-
-    impl Read for Interrupted {
-        fn read(&mut self, _buf: &mut [u8]) -> io::Result<usize> {
-            if self.left > 0 {
-                self.left -= 1;
-                return Err(io::Error::from(ErrorKind::Interrupted));
-            }
-            Ok(0)
-        }
-    }
-
-    #[test]
-    fn repeats_so_often_and_no_more(rt: HostRuntime) -> Result<(), Fail> {
-        let alloc = rt.alloc();
-        assert!(rt;
-            read_all(
-                alloc,
-                &mut Interrupted { left: 1024 },
-                9,
-                &mut Repeats::new()
-            )
-            .is_ok()
-        );
-        assert!(rt;
-            read_all(
-                alloc,
-                &mut Interrupted { left: 1025 },
-                9,
-                &mut Repeats::new()
-            )
-            .is_err()
-        );
-        Ok(())
-    }
-
-    #[test]
-    fn reads_up_to_the_limit(rt: HostRuntime) -> Result<(), Fail> {
-        let alloc = rt.alloc();
-        let mut text = b"abcdef".as_slice();
-        let Ok(bytes) = read_all(alloc, &mut text, 6, &mut Repeats::new()) else {
-            return Err(Fail::from("no bytes"));
-        };
-        assert_eq!(rt; bytes.as_slice(), b"abcdef".as_slice());
-        let mut text = b"abcdef".as_slice();
-        match read_all(alloc, &mut text, 3, &mut Repeats::new()) {
-            Err(ReadFault::TooLarge) => assert_eq!(rt; text, b"ef".as_slice()),
-            _ => return Err(Fail::from("another answer")),
-        }
-        Ok(())
-    }
-
-    #[test]
-    fn a_file_of_the_system_is_read_to_its_end(rt: HostRuntime) -> Result<(), Fail> {
-        let alloc = rt.alloc();
-        let mut disk = Disk::new(rt, alloc);
-        let Ok(bytes) = disk.fetch("/proc/sys/kernel/ostype", 6) else {
-            return Err(Fail::from("no bytes"));
-        };
-        assert_eq!(rt; bytes.as_slice(), b"Linux\n".as_slice());
-        match disk.fetch("/proc/sys/kernel/ostype", 5) {
-            Err(FetchFault::TooLarge) => {}
-            _ => return Err(Fail::from("another answer of a longer file")),
-        }
-        assert_eq!(rt; disk.faults, 0);
-        match disk.fetch("/", 9) {
-            Err(FetchFault::Failed) => {}
-            _ => return Err(Fail::from("another answer of a folder")),
-        }
-        assert_eq!(rt; disk.faults, 1);
-        Ok(())
-    }
-
-    #[test]
-    fn a_missing_file_is_not_there(rt: HostRuntime) -> Result<(), Fail> {
-        let alloc = rt.alloc();
-        let mut disk = Disk::new(rt, alloc);
-        match disk.fetch("no such file", 9) {
-            Err(FetchFault::NotThere) => Ok(()),
-            _ => Err(Fail::from("another answer")),
         }
     }
 }

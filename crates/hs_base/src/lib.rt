@@ -10,7 +10,7 @@ pub mod outside;
 pub mod parts;
 pub mod place;
 pub mod put;
-mod repeats;
+pub mod repeats;
 pub mod rule;
 pub mod shelf;
 pub mod spelling;

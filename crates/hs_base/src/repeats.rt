@@ -13,7 +13,7 @@ const REPEATS: u32 = 1024;
 
 /// The repeats that are left in one fetch or put, seen by contracts as their number.
 #[derive(Drop)]
-pub(crate) struct Repeats {
+pub struct Repeats {
     left: u32,
 }
 
@@ -27,14 +27,14 @@ impl Model for Repeats {
 
 impl Repeats {
     /// All 1,024.
-    pub(crate) fn new() -> Repeats
+    pub fn new() -> Repeats
         ensures { result ≡ 1024 }
     {
         Repeats { left: REPEATS }
     }
 
     /// Takes a repeat after an interruption. Any other error is told, and so is an interruption where no repeat is left.
-    pub(crate) fn after(&mut self, error: io::Error) -> io::Result<()>
+    pub fn after(&mut self, error: io::Error) -> io::Result<()>
         ensures again { OnOk result ((error_kind error ≡ ErrorKind.Interrupted) × (self.old ≡ self.new + 1)) }
         ensures told { IfErr result (λ e. (e ≡ error) × IsTold error self.old × (self.new ≡ self.old)) }
     {

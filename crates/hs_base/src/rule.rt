@@ -341,37 +341,3 @@ impl Rule {
         }
     }
 }
-
-#[cfg(test)]
-mod tests {
-    use super::*;
-    use std::test::Fail;
-
-    #[test]
-    fn rules_have_their_places_codes_and_texts(rt: HostRuntime) -> Result<(), Fail> {
-        let table = [
-            (Rule::X1, 1, "X1", "no token begins with this byte"),
-            (Rule::G8, 14, "G8", "this word is not part of HS-1"),
-            (
-                Rule::T4,
-                30,
-                "T4",
-                "`as` goes from a public integer to a public integer",
-            ),
-            (Rule::S1, 63, "S1", "limit passed: file bytes"),
-            (Rule::S9, 71, "S9", "limit passed: name bytes"),
-            (
-                Rule::M4,
-                75,
-                "M4",
-                "wrong number of arguments, parts or arms",
-            ),
-        ];
-        for (rule, number, code, text) in &table {
-            assert_eq!(rt; rule.number(), *number);
-            assert_eq!(rt; rule.code(), *code);
-            assert_eq!(rt; rule.text(), *text);
-        }
-        Ok(())
-    }
-}

@@ -63,20 +63,3 @@ pub fn is_name(word: &[u8]) -> bool
         [first, rest @ ..] => { begins_name(*first) && all_word_bytes(rest) && !is_reserved(word) }
     }
 }
-
-#[cfg(test)]
-mod tests {
-    use super::*;
-    use std::test::Fail;
-
-    #[test]
-    fn names_are_told_from_other_words(rt: HostRuntime) -> Result<(), Fail> {
-        for name in ["x", "_x", "__", "U32_from_U8", "Match", "x9"] {
-            assert!(rt; is_name(name.as_bytes()));
-        }
-        for word in ["", "_", "9x", "match", "Self", "a-b", "\u{e9}"] {
-            assert!(rt; !is_name(word.as_bytes()));
-        }
-        Ok(())
-    }
-}

@@ -301,24 +301,3 @@ pub fn features_of_stages() -> [[bool; 10]; 8]
         switches::<NoLoop>(),
     ]
 }
-
-#[cfg(test)]
-mod tests {
-    use super::*;
-
-    #[test]
-    fn sets_have_their_features(rt: HostRuntime) {
-        let (y, n) = (true, false);
-        let sets = [
-            [y, y, y, y, y, y, y, n, n, n],
-            [n, y, y, y, y, y, y, n, n, n],
-            [n, n, y, y, y, y, y, n, n, n],
-            [n, n, n, y, y, y, y, n, n, n],
-            [n, n, n, n, y, y, y, n, n, n],
-            [n, n, n, n, n, y, y, y, n, n],
-            [n, n, n, n, n, n, y, y, y, n],
-            [n, n, n, n, n, n, n, y, n, y],
-        ];
-        assert_eq!(rt; features_of_stages(), sets);
-    }
-}

@@ -9,6 +9,3 @@ mod token;
 pub use piece::Piece;
 pub use terminals::{across, at, int, is_at_name, name};
 pub use token::{Kind, NAME_KINDS, Token, tokens_of};
-
-#[cfg(test)]
-mod tests;

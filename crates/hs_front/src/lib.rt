@@ -9,5 +9,3 @@ mod scope;
 mod stages;
 mod symbol;
 mod syntax;
-#[cfg(test)]
-mod tests;

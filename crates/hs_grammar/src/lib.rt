@@ -5,6 +5,4 @@ pub mod cursor;
 pub mod error;
 pub mod grammar;
 pub mod loops;
-#[cfg(test)]
-mod tests;
 pub mod whole;

@@ -13,6 +13,3 @@ pub use hs_base::place::place_behind;
 pub use law::comments_nest;
 pub use lexer::lex;
 pub use token::{Token, TokenKind, Tokens};
-
-#[cfg(test)]
-mod tests;

@@ -5,8 +5,6 @@ mod agree;
 mod flat;
 mod height;
 mod items;
-#[cfg(test)]
-mod tests;
 mod told;
 mod walk;
 

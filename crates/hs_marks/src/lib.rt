@@ -4,8 +4,6 @@
 mod breach;
 mod halt;
 mod law;
-#[cfg(test)]
-mod tests;
 
 pub use breach::{Breach, refuse_if};
 pub use halt::Halt;

@@ -13,8 +13,6 @@ mod pack;
 mod part;
 mod row;
 mod table;
-#[cfg(test)]
-mod tests;
 mod view;
 
 pub use catalog::{OPS, standard};

@@ -2,8 +2,6 @@
 #![tactic(auto)]
 
 mod order;
-#[cfg(test)]
-mod tests;
 mod waits;
 
 pub use order::Order;

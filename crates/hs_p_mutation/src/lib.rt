@@ -129,6 +129,3 @@ pub fn drop_assigns(alloc: Global, program: Program<NoExit>) -> Result<Program<N
     calls_are_computed();
     Ok(made)
 }
-
-#[cfg(test)]
-mod tests;

@@ -5,7 +5,5 @@ mod declaration_forms;
 mod items;
 mod macro_forms;
 mod parameter_forms;
-#[cfg(test)]
-mod tests;
 
 pub use items::file;

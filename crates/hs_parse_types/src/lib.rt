@@ -3,8 +3,6 @@
 
 mod items;
 mod pattern_forms;
-#[cfg(test)]
-mod tests;
 mod type_forms;
 
 pub use pattern_forms::{arm_pattern, pattern, patterns};

@@ -8,8 +8,6 @@ mod parser;
 mod source;
 mod stack;
 mod stop;
-#[cfg(test)]
-mod tests;
 
 pub use parser::{parse, unambiguous};
 pub use stop::ParseStop;

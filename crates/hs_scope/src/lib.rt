@@ -3,8 +3,6 @@
 
 mod names;
 mod scope;
-#[cfg(test)]
-mod tests;
 
 pub use names::Names;
 pub use scope::Scope;

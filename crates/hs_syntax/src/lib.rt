@@ -7,8 +7,6 @@ mod item;
 mod measure;
 mod pat;
 mod span;
-#[cfg(test)]
-mod tests;
 mod ty;
 
 pub use exp::{

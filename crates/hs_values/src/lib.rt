@@ -2,8 +2,6 @@
 #![tactic(auto)]
 
 mod header;
-#[cfg(test)]
-mod tests;
 mod types;
 mod value;
 

@@ -431,6 +431,3 @@ impl Word {
         }
     }
 }
-
-#[cfg(test)]
-mod tests;

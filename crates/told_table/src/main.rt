@@ -1,4 +1,4 @@
-//! Prints what is told of each front of a source, of each line of a table of sources, and of sources that nest deeply.
+//! Prints what is told of each front of a source, of each line of two tables of sources, and of sources that nest deeply.
 #![tactic(auto)]
 
 use hs_lexer::lex;
@@ -146,7 +146,7 @@ fn print_others(rt: &impl Print, alloc: Global) -> io::Result<()> {
     print_parts(rt, alloc, &[])?;
     print_parts(rt, alloc, &[("const A: u8 = 1; ", 800)])?;
     let flat = "fn f() -> Seq<u8> { if a { f([1]) } else { - 1 } } ";
-    print_parts(rt, alloc, &[(flat, 500)])?;
+    print_parts(rt, alloc, &[(flat, 1500)])?;
     print_parts(rt, alloc, &[("\n", 70_000), ("1", 1)])?;
     print_parts(rt, alloc, &[("(1 2)", 1)])?;
     print_parts(rt, alloc, &[("1", 1), ("(", 2_000)])?;
@@ -161,6 +161,40 @@ fn print_others(rt: &impl Print, alloc: Global) -> io::Result<()> {
     print_parts(rt, alloc, &types)
 }
 
+/// The source that a row stands for: its parts have a `~` between, `3*a` is `aaa`, and `\n` is a line feed.
+fn source_of(alloc: Global, row: &str) -> Result<String, AllocError> {
+    let mut text = String::new(alloc);
+    for part in row.split('~') {
+        if part == "\\n" {
+            text.push_str("\n")?;
+        } else {
+            let (unit, count) = counted(part);
+            repeat(&mut text, unit, count)?;
+        }
+    }
+    Ok(text)
+}
+
+/// What a part repeats, and how often.
+fn counted(part: &str) -> (&str, usize) {
+    if let Some((number, unit)) = part.split_once('*')
+        && let Ok(count) = number.parse()
+    {
+        return (unit, count);
+    }
+    (part, 1)
+}
+
+/// Prints what is told of the sources that were chosen one by one.
+fn print_chosen(rt: &HostRuntime, alloc: Global) -> io::Result<()> {
+    let chosen = fs::read_to_string(rt, "chosen.txt")?;
+    for row in chosen.lines() {
+        let text = source_of(alloc, row)?;
+        print_told(rt, alloc, text.as_bytes())?;
+    }
+    Ok(())
+}
+
 fn main(rt: HostRuntime) -> io::Result<()> {
     let alloc = rt.alloc();
     let source = fs::read_to_string(&rt, "chacha20.rs")?;
@@ -173,6 +207,7 @@ fn main(rt: HostRuntime) -> io::Result<()> {
     for line in table.lines() {
         print_told(&rt, alloc, line.as_bytes())?;
     }
+    print_chosen(&rt, alloc)?;
     print_nests(&rt, alloc)?;
     print_others(&rt, alloc)?;
     Ok(())
