@@ -1,3 +1,5 @@
+ghost use Rattle.std.specs.Prelude.{OnErr, IsErrOf};
+
 use hs_base::memory::NoMemory;
 use hs_base::name::Name;
 use hs_base::place::{Broken, Pos, Stop};
