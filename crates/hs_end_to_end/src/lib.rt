@@ -1,13 +1,5 @@
-//! Tests of the top call, over files and sinks in memory.
+//! Tests of the top call over files and sinks that never fail.
 #![tactic(auto)]
 
-#[cfg(test)]
-mod calls;
-#[cfg(test)]
-mod print;
-#[cfg(test)]
-mod refuse;
-#[cfg(test)]
-mod sinks;
 #[cfg(test)]
 mod sure;

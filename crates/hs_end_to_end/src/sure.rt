@@ -3,7 +3,6 @@
 ghost use Rattle.std.specs.Prelude.{◌≡◌, List, [], ◌∷◌, map, string_bytes, codes, IfOk};
 ghost use Rattle.hs_cli.specs.Lines.{refused_line};
 
-use crate::calls::{Left, MINUS, MINUS_LINE, USAGE, is_refused};
 use hs_base::heap::SureHeap;
 use hs_base::place::Broken;
 use hs_base::shelf::SureShelf;
@@ -12,6 +11,24 @@ use hs_front::check::check;
 use hs_parser::ParseStop;
 use std::alloc::{AllocError, Global};
 use std::test::Fail;
+
+// A source in which `-` stands where no token of its kind can.
+const MINUS: &[u8] = b"pub fn f(a: u32) -> u32 { a - 1 }";
+
+// The line of that source's refusal.
+const MINUS_LINE: &str = "add.rs:1:29: G8 this word is not part of HS-1\n";
+
+// The line that tells the forms.
+const USAGE: &[u8] =
+    b"usage: hs check FILE | show PHASE FILE | print DIALECT NAME FILE | run FILE FUNCTION ARGS | vectors FILE VECTORS [BUDGET] | replay DIALECT MODULE VECTORS [BUDGET] | sample SEED COUNT [run]\n";
+
+// What a call gives and leaves on the sinks.
+#[derive(Drop)]
+struct Left {
+    status: Status,
+    out: Vec<u8>,
+    err: Vec<u8>,
+}
 
 // The words that ask for the module of a file.
 fn asked(alloc: Global, file: &str) -> Result<Vec<String>, AllocError>
@@ -108,6 +125,8 @@ fn call_on_minus(alloc: Global) -> Result<Left, Fail> {
 #[test]
 fn the_line_of_a_refusal_fits(rt: HostRuntime) -> Result<(), Fail> {
     let left = call_on_minus(rt.alloc())?;
-    assert!(rt; is_refused(&left, MINUS_LINE));
+    assert_eq!(rt; left.status, Status::Refused);
+    assert!(rt; left.out.is_empty());
+    assert_eq!(rt; left.err.as_slice(), MINUS_LINE.as_bytes());
     Ok(())
 }
