@@ -1,0 +1,9 @@
+pub mod AllKinds
+pub mod ByForm
+pub mod Forms
+pub mod Measured
+pub mod Names
+pub mod Same
+pub mod Scopes
+pub mod Secrets
+pub mod Spellings

@@ -1,0 +1,9 @@
+pub mod Types
+pub mod Wishes
+pub mod Operations
+pub mod Locals
+pub mod Rules
+pub mod Views
+pub mod Held
+pub mod Called
+pub mod Spelled
