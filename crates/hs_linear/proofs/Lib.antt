@@ -1,0 +1,14 @@
+mod Numbers
+mod Order
+mod Parts
+mod Agree
+mod Whole
+mod Sets
+mod Steps
+mod Layers
+mod Rows
+mod Functions
+mod Uses
+mod Called
+mod Back
+mod Single

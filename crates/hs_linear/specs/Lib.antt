@@ -1,0 +1,11 @@
+pub mod Rules
+pub mod Told
+pub mod Seen
+pub mod Nodes
+pub mod Programs
+pub mod Sources
+pub mod Uses
+pub mod Called
+pub mod Sets
+pub mod Moments
+pub mod Known
