@@ -1,6 +1,6 @@
 -- What is told of functions, one by one, and of a program.
 use mathlib.Core.Path.{fun_ext}
-use Rattle.std.proofs.Common.{◌≡◌, ℕ, ◌+◌, ◌<◌, ◌≤◌, Bool, true, false, not, ◌&&◌, eqb, List, [], map, length, get_or, drop, slice_get, Option, Some, None, option_map, refl, sym, ap, ap₂, subst, ◌∙◌}
+use Rattle.std.proofs.Common.{◌≡◌, ℕ, ◌+◌, ◌<◌, ◌≤◌, Bool, true, false, not, ◌&&◌, eqb, List, [], map, length, get_or, drop, slice_get, Option, Some, None, option_map, refl, sym, ap, ap₂, ◌∙◌}
 use Rattle.std.specs.Prelude.{flat_map}
 use Rattle.std.specs.List.{list_any}
 use Rattle.std.proofs.lemmas.Option.{slice_get-map}
@@ -28,14 +28,14 @@ use Rattle.hs_linear.specs.Seen.{gives}
 use Rattle.hs_linear.specs.Nodes.{Known, block_seen}
 use Rattle.hs_linear.specs.Sets.{set_of, IsAt}
 use Rattle.hs_linear.specs.Moments.{Notes, Passed}
-use Rattle.hs_linear.specs.Told.{Answers, told_of}
+use Rattle.hs_linear.specs.Told.{told_of}
 use Rattle.hs_linear.specs.Known.{moves_at, known_of}
 use Rattle.hs_linear.specs.Programs.{known, broken, TellsMoves}
 use Rattle.hs_linear.specs.declared.told.Breach.{Breach}
 use Rattle.hs_linear.specs.declared.state.State.{State}
 use Rattle.hs_linear.specs.declared.world.World.{World}
 use Rattle.hs_linear.proofs.Layers.{B}
-use Rattle.hs_linear.proofs.Order.{told_answers, only_told}
+use Rattle.hs_linear.proofs.Order.{only_told}
 use Rattle.hs_linear.proofs.Steps.{told_append}
 use Rattle.hs_linear.proofs.Rows.{next, all_gone}
 

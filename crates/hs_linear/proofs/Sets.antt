@@ -3,7 +3,7 @@ use mathlib.Core.Path.{fun_ext}
 use Rattle.std.proofs.Common.{◌≡◌, ℕ, Bool, true, false, not, ◌&&◌, ◌||◌, cond, eqb, List, [], ◌∷◌, ◌++◌, map, filter, Option, Some, None, refl, sym, ap, ap₂, ◌∙◌, arith}
 use Rattle.std.proofs.lemmas.Bool.Decides.{nat_tests}
 use Rattle.hs_tree.specs.Store.{among}
-use Rattle.hs_tree.specs.Moves.{Holding, also, less}
+use Rattle.hs_tree.specs.Moves.{Holding, also}
 use Rattle.hs_linear.specs.Seen.{after_either}
 use Rattle.hs_linear.specs.Sets.{turned, changed, ended_at, lost_by, won_by, lost_with, won_with, joined_won}
 

@@ -1,18 +1,16 @@
 -- Single nodes.
-use Rattle.std.proofs.Common.{◌≡◌, ℕ, Bool, true, false, not, ◌&&◌, ◌↔◌, cond, List, [], ◌∷◌, map, filter, Option, Some, None, Result, refl, sym, ap, ◌∙◌, subst, get_or, drop, length, ◌+◌, ◌<◌, ◌≤◌}
+use Rattle.std.proofs.Common.{◌≡◌, ℕ, Bool, true, false, not, ◌&&◌, ◌↔◌, cond, List, [], ◌∷◌, map, filter, Option, Some, None, Result, refl, ap, ◌∙◌, subst, drop, length, ◌≤◌}
 use Rattle.std.specs.Prelude.{OnOk, IsTrue, is_some, is_none}
-use Rattle.hs_base.specs.declared.rule.Rule.TheVariants.{L3}
 use Rattle.hs_tree.specs.Moves.{Holding}
 use Rattle.hs_tree.specs.declared.node.Span.{Span}
-use Rattle.hs_linear.specs.Rules.{when}
-use Rattle.hs_linear.specs.Seen.{Part, breaks, read, not_given_back}
+use Rattle.hs_linear.specs.Seen.{Part, read, not_given_back}
 use Rattle.hs_linear.specs.Nodes.{is_here}
 use Rattle.hs_linear.specs.Told.{told_of}
 use Rattle.hs_linear.specs.Moments.{Passed}
 use Rattle.hs_linear.specs.declared.told.Breach.{Breach}
 use Rattle.hs_linear.specs.declared.told.Take.{Take}
 use Rattle.hs_linear.specs.declared.state.State.{State}
-use Rattle.hs_linear.proofs.Rows.{next, all_gone}
+use Rattle.hs_linear.proofs.Rows.{all_gone}
 
 -- whether a read takes a value out through a reference
 pub through_is : (moves lent reference takes through : Bool) → takes ≡ (moves && not lent) → through ≡ (takes && reference) → through ≡ (moves && not lent && reference)
